@@ -1,0 +1,299 @@
+//! The library's answers against the reference's, with the contents of every lent slice: canaries stand beyond the answer, and
+//! in all of it where the call is refused.
+
+use crate::cbf;
+use crate::frames::Random;
+use crate::reference;
+
+/// Numbers at the edges of the widths and of the types.
+const EDGES: [i64; 12] = [
+    0,
+    1,
+    127,
+    128,
+    255,
+    256,
+    32_767,
+    32_768,
+    65_535,
+    2_147_483_647,
+    2_147_483_648,
+    4_294_967_295,
+];
+
+fn canaries(random: &mut Random, n: usize) -> Vec<i64> {
+    (0..n).map(|_| random.next() as i64).collect()
+}
+
+fn check_pack(element_type: u8, pixels: &[i64], room: usize, random: &mut Random) {
+    let before: Vec<u8> = (0..room).map(|_| random.next() as u8).collect();
+    let mut out = before.clone();
+    let got = cbf::pack(element_type, pixels, &mut out);
+    let expected = reference::pack(element_type, pixels, room);
+    let mut after = before;
+    let answer = expected.map(|octets| {
+        after[..octets.len()].copy_from_slice(&octets);
+        octets.len()
+    });
+    if got != answer || out != after {
+        differ(format!(
+            "pack type {element_type} room {room} pixels {pixels:?}: {got:?}, and not {answer:?}"
+        ));
+    }
+}
+
+fn check_unpack(
+    element_type: u8,
+    compression: u8,
+    octets: &[u8],
+    count: usize,
+    room: usize,
+    random: &mut Random,
+) {
+    let before = canaries(random, room);
+    let mut out = before.clone();
+    let got = cbf::unpack_octets(element_type, compression, octets, count, &mut out);
+    let expected = reference::unpack(element_type, compression, octets, count, room);
+    let mut after = before;
+    let answer = expected.map(|pixels| {
+        after[..pixels.len()].copy_from_slice(&pixels);
+        pixels.len()
+    });
+    if got != answer || out != after {
+        differ(format!(
+            "unpack type {element_type} compression {compression} count {count} room {room} octets {octets:02x?}: {got:?}, and not {answer:?}"
+        ));
+    }
+}
+
+fn differ(what: String) -> ! {
+    println!("DIFFERENT: {what}");
+    std::process::exit(1)
+}
+
+/// A pixel of the type, in one of several ways.
+fn pixel(way: usize, last: i64, least: i64, greatest: i64, random: &mut Random) -> i64 {
+    let edge = EDGES[random.below(EDGES.len())] * if random.below(2) == 0 { 1 } else { -1 };
+    let size = greatest - least + 1;
+    let p = match way {
+        0 => last + random.below(9) as i64 - 4,
+        1 => last + random.below(255) as i64 - 127,
+        2 => last + edge,
+        3 => edge,
+        4 => least + (random.next() % size as u64) as i64,
+        _ => [least, greatest, 0][random.below(3)],
+    };
+    p.clamp(least, greatest)
+}
+
+fn pixels(n: usize, least: i64, greatest: i64, random: &mut Random) -> Vec<i64> {
+    let way = random.below(8);
+    let mut last = 0;
+    (0..n)
+        .map(|_| {
+            // Ways 6 and 7 are mostly plain, with one far pixel now and then.
+            let at = if way < 6 {
+                way
+            } else if random.below(40) == 0 {
+                2
+            } else {
+                way - 6
+            };
+            last = pixel(at, last, least, greatest, random);
+            last
+        })
+        .collect()
+}
+
+/// Room too small by one, exact, larger, and none.
+fn rooms(n: usize, random: &mut Random) -> [usize; 4] {
+    [n, n.saturating_sub(1), n + 1 + random.below(40), 0]
+}
+
+fn count(random: &mut Random) -> usize {
+    match random.below(4) {
+        0 => random.below(6),
+        1 => random.below(70),
+        2 => 30 + random.below(8),
+        _ => random.below(700),
+    }
+}
+
+/// Damages octets: cuts, adds, or changes some.
+fn damage(octets: &mut Vec<u8>, random: &mut Random) {
+    match random.below(5) {
+        0 => octets.truncate(random.below(octets.len() + 1)),
+        1 => octets.extend((0..1 + random.below(20)).map(|_| random.next() as u8)),
+        2 if !octets.is_empty() => {
+            let at = random.below(octets.len());
+            octets[at] = [0x80, 0x7f, 0x00, 0xff, random.next() as u8][random.below(5)];
+        }
+        3 if !octets.is_empty() => {
+            octets.pop();
+        }
+        _ => octets.push(random.next() as u8),
+    }
+}
+
+/// Octets of pixels, some of them wider than they need to be.
+fn overlong(pixels: &[i64], random: &mut Random) -> Vec<u8> {
+    let mut octets = Vec::new();
+    let mut last = 0;
+    let often = 1 + random.below(50);
+    for &p in pixels {
+        let narrowest = if random.below(often) == 0 {
+            random.below(4)
+        } else {
+            0
+        };
+        reference::put_difference(p - last, narrowest, &mut octets);
+        last = p;
+    }
+    octets
+}
+
+fn round(element_type: u8, random: &mut Random) -> usize {
+    let (least, greatest, width) = reference::range(element_type).unwrap();
+    let mut calls = 0;
+    let n = count(random);
+    let mut frame = pixels(n, least, greatest, random);
+    let mut octets = reference::pack(element_type, &frame, usize::MAX).unwrap();
+    for room in rooms(octets.len(), random) {
+        check_pack(element_type, &frame, room, random);
+    }
+    for room in rooms(n, random) {
+        check_unpack(element_type, 1, &octets, n, room, random);
+    }
+    let long = overlong(&frame, random);
+    check_unpack(element_type, 1, &long, n, n, random);
+    check_unpack(element_type, 1, &long, n + 1, n + 1, random);
+    check_unpack(element_type, 1, &long, n.saturating_sub(1), n, random);
+    // The same octets as another type: a pixel leaves its range wherever the types differ.
+    let other = 1 + random.below(6) as u8;
+    check_unpack(other, 1, &long, n, n, random);
+    damage(&mut octets, random);
+    check_unpack(element_type, 1, &octets, n, n, random);
+    // One pixel outside the type.
+    if n > 0 {
+        let at = random.below(n);
+        frame[at] = [
+            least - 1,
+            greatest + 1,
+            i64::MIN,
+            i64::MAX,
+            random.next() as i64,
+        ][random.below(5)];
+        check_pack(element_type, &frame, 15 * n, random);
+    }
+    // Uncompressed octets, as many as there should be and not.
+    let raw: Vec<u8> = (0..n * width).map(|_| random.next() as u8).collect();
+    for room in rooms(n, random) {
+        check_unpack(element_type, 0, &raw, n, room, random);
+    }
+    check_unpack(element_type, 0, &raw, n + 1, n + 1, random);
+    check_unpack(
+        element_type,
+        0,
+        &raw[..raw.len().saturating_sub(1)],
+        n,
+        n,
+        random,
+    );
+    // Octets with no meaning.
+    let noise: Vec<u8> = (0..n)
+        .map(|_| {
+            if random.below(3) == 0 {
+                0x80
+            } else {
+                random.next() as u8
+            }
+        })
+        .collect();
+    check_unpack(element_type, 1, &noise, n / 2, n, random);
+    calls += 4 + 4 + 3 + 1 + 1 + usize::from(n > 0) + 4 + 2 + 1;
+    calls
+}
+
+/// Runs of plain octets to each end of the type and one beyond, at each place of a block; an escape at each place of a block.
+fn blocks(element_type: u8, random: &mut Random) -> usize {
+    let (least, greatest, _) = reference::range(element_type).unwrap();
+    let mut calls = 0;
+    for n in [31, 32, 33, 64, 95, 500] {
+        for at in 0..n.min(70) {
+            for beyond in 0..2 {
+                for (end, away) in [(least, -1), (greatest, 1)] {
+                    let mut octets = Vec::new();
+                    let mut last = 0;
+                    for k in 0..n {
+                        let p = if k == at {
+                            end + away * beyond
+                        } else {
+                            end - away * (1 + random.below(90) as i64)
+                        };
+                        reference::put_difference(p - last, 0, &mut octets);
+                        last = p;
+                    }
+                    check_unpack(element_type, 1, &octets, n, n, random);
+                    calls += 1;
+                }
+            }
+            let mut frame = vec![least.max(-1); n];
+            frame[at] = greatest.min(least + 128 + random.below(70_000) as i64);
+            check_pack(element_type, &frame, 15 * n, random);
+            let octets = overlong(&frame, random);
+            check_unpack(element_type, 1, &octets, n, n, random);
+            calls += 2;
+        }
+    }
+    calls
+}
+
+/// Differences of eight octets, at and about each number that a sum could wrap at.
+fn far(element_type: u8, random: &mut Random) -> usize {
+    let mut calls = 0;
+    let mut numbers = vec![i64::MIN, i64::MIN + 1, i64::MAX, -1, 0, 1];
+    for bits in 30..63 {
+        for near in -1..2 {
+            numbers.extend([(1i64 << bits) + near, -(1i64 << bits) + near]);
+        }
+    }
+    for &first in &numbers {
+        for &second in &numbers {
+            for n in [2, 40] {
+                let mut octets = Vec::new();
+                for d in [first, second] {
+                    octets.extend([0x80, 0, 0x80, 0, 0, 0, 0x80]);
+                    octets.extend(d.to_le_bytes());
+                }
+                octets.resize(octets.len() + 500 * (n / 40), 0);
+                let count = if n == 2 { 2 } else { 502 };
+                check_unpack(element_type, 1, &octets, count, count, random);
+                calls += 1;
+            }
+        }
+    }
+    calls
+}
+
+/// Compares all calls, and tells how many there were.
+pub fn all() -> usize {
+    let mut random = Random::new(1);
+    let mut calls = 0;
+    for element_type in 1..=6 {
+        calls += blocks(element_type, &mut random);
+        calls += far(element_type, &mut random);
+        for _ in 0..2_500 {
+            calls += round(element_type, &mut random);
+        }
+    }
+    for element_type in [0, 7, 8, 255] {
+        check_pack(element_type, &[1, 2], 9, &mut random);
+        check_unpack(element_type, 1, &[1, 2], 2, 9, &mut random);
+        check_unpack(6, element_type.max(2), &[1, 2], 2, 9, &mut random);
+        calls += 3;
+    }
+    check_unpack(6, 1, &[0; 64], reference::PIXEL_LIMIT + 1, 64, &mut random);
+    check_unpack(6, 0, &[0; 64], usize::MAX, 64, &mut random);
+    check_pack(1, &vec![0; reference::PIXEL_LIMIT + 1], 64, &mut random);
+    calls + 3
+}

@@ -1,0 +1,104 @@
+-- The word that a C call returns holds the number and the value apart, and fits. Assumes nothing.
+use Prim.Native.Nat.{ℕ, _+_, _*_, _/_, _%_, _^_, _<_, _≤_}
+use native.Mathlib.Omega.{arith}
+use mathlib.Core.Path.{_≡_, refl, ap, ap₂, _∙_}
+use mathlib.Core.List.{List}
+use mathlib.Core.Bool.{Bool, true, false}
+use lib.Dec.{leb}
+use lib.ListN.{length}
+use lib.IntN.{ℤ}
+use borrow.Author.Tests.{leb-true}
+use Rattle.cbf_pixels.specs.declared.ElementType.{ElementType}
+use Rattle.cbf_pixels.specs.declared.Compression.{Compression}
+use Rattle.cbf_capi.specs.declared.Element.{Element}
+use Rattle.cbf_capi.specs.declared.Element.the-variants as E
+use Rattle.cbf_capi.specs.declared.Compressed.{Compressed}
+use Rattle.cbf_capi.specs.declared.Compressed.the-variants as C
+use Rattle.cbf_pixels.specs.Octets.{pick}
+use Rattle.cbf_pixels.specs.Pixels.{least, greatest, allWithin, packByteOffset}
+use Rattle.cbf_pixels.specs.Answers.{Outcome, gives, refuses, isSome, pixelLimit, octetLimit, written, packOutcome, packOutput, unpackPixels, unpackOutcome, unpackOutput}
+use Rattle.cbf_capi.specs.Words.{packCall, unpackCall, unpackedBy, word}
+
+-- document 01's number, 0 for none, and the place or the length
+abbrev pub numberOf : Outcome → ℕ
+numberOf (gives n) = 0
+numberOf (refuses number place) = number
+
+abbrev pub valueOf : Outcome → ℕ
+valueOf (gives n) = n
+valueOf (refuses number place) = place
+
+pub record Halves (o : Outcome) : Type 0 where
+  pub upper : word o / 2 ^ 32 ≡ numberOf o
+  pub lower : word o % 2 ^ 32 ≡ valueOf o
+  pub fits : word o < 2 ^ 64
+
+halves : (o : Outcome) → numberOf o < 2 ^ 32 → valueOf o < 2 ^ 32 → Halves o
+halves (gives n) h k = record { upper = omega arith; lower = omega arith; fits = omega arith }
+halves (refuses number place) h k = record { upper = omega arith; lower = omega arith; fits = omega arith }
+
+refused : (number : ℕ) → number < 2 ^ 32 → Halves (refuses number 0)
+refused number h = halves (refuses number 0) h (omega arith)
+
+-- a length where the test holds, else a refusal
+tested : (b : Bool) (x : Outcome) (number : ℕ) → number < 2 ^ 32 → (b ≡ true → Halves x) → Halves (pick b x (refuses number 0))
+unfolding pick
+tested true x number h f = f refl
+tested false x number h f = refused number h
+
+given : (n limit : ℕ) → limit < 2 ^ 32 → leb n limit ≡ true → Halves (gives n)
+given n limit h e = let l = leb-true n limit e in halves (gives n) (omega arith) (omega arith)
+
+pub pack-halves : (t : ElementType) (ps : List ℤ) (room : ℕ) → Halves (packOutcome t ps room)
+unfolding packOutcome
+pack-halves t ps room =
+    tested (leb (length ps) pixelLimit) _ 14 (omega arith) (λ a.
+    tested (allWithin (least t) (greatest t) ps) _ 14 (omega arith) (λ b.
+    tested (leb (length (packByteOffset ps)) octetLimit) _ 16 (omega arith) (λ c.
+    tested (leb (length (packByteOffset ps)) room) _ 15 (omega arith) (λ d.
+    given (length (packByteOffset ps)) octetLimit (omega arith) c))))
+
+pub unpack-halves : (c : Compression) (t : ElementType) (n : ℕ) (os : List ℕ) (room : ℕ) → Halves (unpackOutcome c t n os room)
+unfolding unpackOutcome
+unpack-halves c t n os room =
+    tested (leb n pixelLimit) _ 13 (omega arith) (λ a.
+    tested (isSome (unpackPixels c t n os)) _ 13 (omega arith) (λ b.
+    tested (leb n room) _ 15 (omega arith) (λ d.
+    given n pixelLimit (omega arith) a)))
+
+-- ---- what the calls answer, for the numbers of a type and of a compression
+
+module _ (e : Element) (ps : List ℤ) (out : List ℕ) where
+  unfoldable pub PackSays : ℕ → List ℕ → Type 0
+  PackSays r out′ = (r ≡ word (packCall e ps (length out))) × (out′ ≡ written (packCall e ps (length out)) (packByteOffset ps) out)
+
+  pub pack-unknown : (r : ℕ) → r ≡ word (refuses 14 0) → E.Unknown ≡ e → PackSays r out
+  unfolding PackSays packCall written
+  pack-unknown r w q = (w ∙ ap (λ (x : Element). word (packCall x ps (length out))) q, ap (λ (x : Element). written (packCall x ps (length out)) (packByteOffset ps) out) q)
+
+  pub pack-known : (t : ElementType) → E.Known t ≡ e → (r : ℕ) (o : Outcome) (out′ : List ℕ) → r ≡ word o → o ≡ packOutcome t ps (length out) → out′ ≡ packOutput t ps out → PackSays r out′
+  unfolding PackSays packCall packOutput
+  pack-known t q r o out′ w a b =
+      (w ∙ ap word a ∙ ap (λ (x : Element). word (packCall x ps (length out))) q, b ∙ ap (λ (x : Element). written (packCall x ps (length out)) (packByteOffset ps) out) q)
+
+module _ (e : Element) (c : Compressed) (n : ℕ) (os : List ℕ) (out : List ℤ) where
+  unfoldable pub UnpackSays : ℕ → List ℤ → Type 0
+  UnpackSays r out′ = (r ≡ word (unpackCall e c n os (length out))) × (out′ ≡ written (unpackCall e c n os (length out)) (unpackedBy e c n os) out)
+
+  unpack-refused : (r : ℕ) → r ≡ word (refuses 13 0) → refuses 13 0 ≡ unpackCall e c n os (length out) → UnpackSays r out
+  unfolding UnpackSays written
+  unpack-refused r w q = (w ∙ ap word q, ap (λ (o : Outcome). written o (unpackedBy e c n os) out) q)
+
+  pub unpack-no-type : (r : ℕ) → r ≡ word (refuses 13 0) → E.Unknown ≡ e → UnpackSays r out
+  unfolding unpackCall
+  unpack-no-type r w q = unpack-refused r w (ap (λ (x : Element). unpackCall x c n os (length out)) q)
+
+  pub unpack-no-compression : (r : ℕ) → r ≡ word (refuses 13 0) → (t : ElementType) → E.Known t ≡ e → C.Unknown ≡ c → UnpackSays r out
+  unfolding unpackCall
+  unpack-no-compression r w t q u = unpack-refused r w (ap₂ (λ (x : Element) (y : Compressed). unpackCall x y n os (length out)) q u)
+
+  pub unpack-known : (t : ElementType) (k : Compression) → E.Known t ≡ e → C.Known k ≡ c → (r : ℕ) (o : Outcome) (out′ : List ℤ) → r ≡ word o → o ≡ unpackOutcome k t n os (length out) → out′ ≡ unpackOutput k t n os out
+      → UnpackSays r out′
+  unfolding UnpackSays unpackCall unpackedBy unpackOutput
+  unpack-known t k q u r o out′ w a b =
+      (w ∙ ap word a ∙ ap₂ (λ (x : Element) (y : Compressed). word (unpackCall x y n os (length out))) q u, b ∙ ap₂ (λ (x : Element) (y : Compressed). written (unpackCall x y n os (length out)) (unpackedBy x y n os) out) q u)

@@ -1,0 +1,56 @@
+use Prim.Native.Nat.{ℕ, _^_, _<_}
+use mathlib.Core.Path.{_≡_, sym, _∙_}
+use lib.ListN.{length}
+use Rattle.cbf_capi.specs.Words.{word}
+use Rattle.cbf_capi.proofs.Words.{PackSays, pack-halves, pack-unknown, pack-known}
+use borrow.Author.Needs.{needs}
+use Rattle.cbf_capi.proofs.cbf_pack.Statement.{statement}
+use Rattle.cbf_capi.proofs.cbf_pack.Tie as tie
+
+element-of-requires : tie.Need-element-of-requires
+element-of-requires c κs = search needs
+
+enum-told : tie.Need-enum-told
+enum-told c = search needs
+
+refused-requires : tie.Need-refused-requires
+refused-requires c κs = search needs
+
+enum-known-known : tie.Need-enum-known-known
+enum-known-known c = search needs
+
+pack-requires : tie.Need-pack-requires
+pack-requires c κs = search needs
+
+word-of-requires : tie.Need-word-of-requires
+word-of-requires c κs = let a = c .before .before .before .before .before .before .before .before .before .args in rw (c .before .before .pack .ensures .0) (pack-halves _ (a .pixels .now) (length (a .out .now)) .fits)
+
+returns : tie.Need-returns
+unfolding PackSays
+returns c =
+    let a = c .before .before .before .before .before .args in
+    pack-unknown _ (a .pixels .now) (a .out .now) _ (c .refused .ensures) (sym (c .before .enum-told .given .1) ∙ c .before .before .before .element-of .ensures)
+
+same-length : tie.Need-same-length
+same-length c = search needs
+
+returns-2 : tie.Need-returns-2
+unfolding PackSays
+returns-2 c =
+    let a = c .before .before .before .before .before .before .before .before .before .before .args in
+    let E = c .before .before .before .pack .ensures in
+    pack-known _ (a .pixels .now) (a .out .now) _ (sym (c .before .before .before .before .before .before .known .given .1) ∙ c .before .before .before .before .before .before .before .before .element-of .ensures) _ _ _ (c .word-of .ensures) (E .0) (E .1)
+
+pub cbf-pack-spec : {M : Type 1} → statement M
+cbf-pack-spec =
+    tie.close
+    (tie.spec
+    element-of-requires
+    enum-told
+    refused-requires
+    enum-known-known
+    pack-requires
+    word-of-requires
+    returns
+    same-length
+    returns-2)

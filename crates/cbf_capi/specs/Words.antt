@@ -1,0 +1,53 @@
+-- The C boundary: numbers for element types and compressions, and the word that a call returns.
+use Prim.Native.Nat.{ℕ, _+_, _*_, _^_}
+use lib.Dec.{eqb}
+use Rattle.cbf_pixels.specs.Octets.{pick}
+use mathlib.Core.List.{List, []}
+use lib.IntN.{ℤ}
+use Rattle.cbf_pixels.specs.declared.ElementType.{ElementType}
+use Rattle.cbf_pixels.specs.declared.ElementType.the-variants.{U8, S8, U16, S16, U32, S32}
+use Rattle.cbf_pixels.specs.declared.Compression.{Compression}
+use Rattle.cbf_pixels.specs.declared.Compression.the-variants.{Uncompressed, ByteOffset}
+use Rattle.cbf_capi.specs.declared.Element.{Element}
+use Rattle.cbf_capi.specs.declared.Element.the-variants as E
+use Rattle.cbf_capi.specs.declared.Compressed.{Compressed}
+use Rattle.cbf_capi.specs.declared.Compressed.the-variants as C
+use Rattle.cbf_pixels.specs.Answers.{Outcome, gives, refuses, packOutcome, unpackOutcome, pixelsOf, unpackPixels}
+
+-- "type (1 u8, 2 s8, 3 u16, 4 s16, 5 u32, 6 s32)"
+unfoldable pub element : ℕ → Element
+unfolding pick
+element n =
+    pick (eqb n 1) (E.Known U8)
+    (pick (eqb n 2) (E.Known S8)
+    (pick (eqb n 3) (E.Known U16)
+    (pick (eqb n 4) (E.Known S16)
+    (pick (eqb n 5) (E.Known U32)
+    (pick (eqb n 6) (E.Known S32) E.Unknown)))))
+
+-- "compression (0 none, 1 byte offset)"
+unfoldable pub compressed : ℕ → Compressed
+unfolding pick
+compressed n = pick (eqb n 0) (C.Known Uncompressed) (pick (eqb n 1) (C.Known ByteOffset) C.Unknown)
+
+-- "any other type is 14 at 0 in packing"
+unfoldable pub packCall : Element → List ℤ → ℕ → Outcome
+packCall E.Unknown ps room = refuses 14 0
+packCall (E.Known t) ps room = packOutcome t ps room
+
+-- "any other type or compression 13 at 0 in unpacking"
+unfoldable pub unpackCall : Element → Compressed → ℕ → List ℕ → ℕ → Outcome
+unpackCall E.Unknown c n os room = refuses 13 0
+unpackCall (E.Known t) C.Unknown n os room = refuses 13 0
+unpackCall (E.Known t) (C.Known c) n os room = unpackOutcome c t n os room
+
+-- the pixels that are written where the call is not refused
+unfoldable pub unpackedBy : Element → Compressed → ℕ → List ℕ → List ℤ
+unpackedBy E.Unknown c n os = []
+unpackedBy (E.Known t) C.Unknown n os = []
+unpackedBy (E.Known t) (C.Known c) n os = pixelsOf (unpackPixels c t n os)
+
+-- "The upper 32 bits are the refusal number, 0 for none; the lower 32 the place of a refusal, or the length of the answer."
+abbrev pub word : Outcome → ℕ
+word (gives n) = n
+word (refuses number place) = number * 2 ^ 32 + place

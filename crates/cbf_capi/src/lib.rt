@@ -1,0 +1,100 @@
+// The library for C, and whatever calls C: include/cbf.h says what a caller owes. Each function returns a word: the upper
+// 32 bits are the refusal number, 0 for none; the lower 32 the place of a refusal, or the length of the answer.
+use cbf_pixels::Answer;
+use cbf_pixels::Compression;
+use cbf_pixels::ElementType;
+ghost use mathlib.Core.Path.{_≡_};
+ghost use Prim.Native.Nat.{_<_, _^_};
+ghost use lib.ListN.{length};
+ghost use Rattle.cbf_pixels.specs.Pixels.{packByteOffset};
+ghost use Rattle.cbf_pixels.specs.Answers.{refuses, outcome, written};
+ghost use Rattle.cbf_capi.specs.Words.{element, compressed, packCall, unpackCall, unpackedBy, word};
+
+pub enum Element {
+    Unknown,
+    Known(ElementType),
+}
+
+// The element type of a number, as in the catalogue.
+fn element_of(number: u8) -> Element
+    ensures { λ r. ⌜ r ≡ element number ⌝ }
+{
+    match number {
+        1 => Element::Known(ElementType::U8),
+        2 => Element::Known(ElementType::S8),
+        3 => Element::Known(ElementType::U16),
+        4 => Element::Known(ElementType::S16),
+        5 => Element::Known(ElementType::U32),
+        6 => Element::Known(ElementType::S32),
+        _ => Element::Unknown,
+    }
+}
+
+pub enum Compressed {
+    Unknown,
+    Known(Compression),
+}
+
+// The compression of a number, as in the catalogue.
+fn compression_of(number: u8) -> Compressed
+    ensures { λ r. ⌜ r ≡ compressed number ⌝ }
+{
+    match number {
+        0 => Compressed::Known(Compression::Uncompressed),
+        1 => Compressed::Known(Compression::ByteOffset),
+        _ => Compressed::Unknown,
+    }
+}
+
+fn word_of(answer: Answer) -> u64
+    requires { ⌜ word (outcome answer) < 2 ^ 64 ⌝ }
+    ensures { λ r. ⌜ r ≡ word (outcome answer) ⌝ }
+{
+    match answer {
+        Answer::Length(n) => n as u64,
+        Answer::Refused(refusal) => refusal.number as u64 * 4294967296 + refusal.place as u64,
+    }
+}
+
+// The word of a refusal at 0.
+fn refused(number: u32) -> u64
+    ensures { λ r. ⌜ r ≡ word (refuses number 0) ⌝ }
+{
+    number as u64 * 4294967296
+}
+
+// Packs pixels by the byte-offset rule.
+#[no_mangle]
+pub extern "C" fn cbf_pack(element_type: u8, pixels: &[i64], out: &mut [u8]) -> u64
+    ensures answer { λ r. ⌜ r ≡ word (packCall (element «element_type») (now (pixels .entry)) (length (now (out .entry)))) ⌝ }
+    ensures output { λ _. ⌜ now (out .exit) ≡ written (packCall (element «element_type») (now (pixels .entry)) (length (now (out .entry)))) (packByteOffset (now (pixels .entry))) (now (out .entry)) ⌝ }
+{
+    let known = element_of(element_type);
+    match known {
+        Element::Unknown => refused(14),
+        Element::Known(kind) => word_of(cbf_pixels::pack(kind, pixels, out)),
+    }
+}
+
+// Unpacks count pixels from all of octets.
+#[no_mangle]
+pub extern "C" fn cbf_unpack_octets(
+    element_type: u8,
+    compression: u8,
+    octets: &[u8],
+    count: usize,
+    pixels: &mut [i64],
+) -> u64
+    ensures answer { λ r. ⌜ r ≡ word (unpackCall (element «element_type») (compressed compression) count (now (octets .entry)) (length (now (pixels .entry)))) ⌝ }
+    ensures output { λ _. ⌜ now (pixels .exit) ≡ written (unpackCall (element «element_type») (compressed compression) count (now (octets .entry)) (length (now (pixels .entry)))) (unpackedBy (element «element_type») (compressed compression) count (now (octets .entry))) (now (pixels .entry)) ⌝ }
+{
+    let known = element_of(element_type);
+    let compressed_by = compression_of(compression);
+    match known {
+        Element::Unknown => refused(13),
+        Element::Known(kind) => match compressed_by {
+            Compressed::Unknown => refused(13),
+            Compressed::Known(by) => word_of(cbf_pixels::unpack(by, kind, octets, count, pixels)),
+        },
+    }
+}

@@ -1,0 +1,465 @@
+-- The first pass: biased pixels, one at a time, and many. Assumes nothing.
+use Prim.Native.Nat.{ℕ, suc, _+_, _*_, _-_, _/_, _^_, _<_, _≤_}
+use native.Mathlib.Omega.{arith}
+use mathlib.Core.Path.{_≡_, refl, sym, ap, ap₂, _∙_, subst}
+use mathlib.Core.List.{List, [], _∷_}
+use mathlib.Core.Bool.{Bool, true, false}
+use lib.Dec.{ltb, leb, eqb}
+use lib.Bits.{bitOr, or-shr, or-block, or-self, or-lt, or-shifted}
+use lib.ListN.{length, drop, getD}
+use lib.IntN.{ℤ, pos, negsuc, negℤ, subℕ, natAbs, _+ℤ_, +ℤ-comm, +ℤ-assoc, negℤ-+ℤ}
+use lib.Signed.{mag, leZ}
+use mir.Syntax.{w64}
+use mir.Val.{toZ, ofZ}
+use mir.Facts.{toZ-pos}
+use borrow.Author.Tests.{ltb-true, ltb-false, le-leb, lt-leb, leb-true, leb-false}
+use Rattle.cbf_pixels.specs.declared.ElementType.{ElementType}
+use Rattle.cbf_pixels.specs.declared.ElementType.the-variants.{U8, S8, U16, S16, U32, S32}
+use Rattle.cbf_pixels.specs.Octets.{pick, half, signed}
+use Rattle.cbf_pixels.specs.Pixels.{run-out, readBy, widths, within, least, greatest, unpackByteOffset}
+use Rattle.cbf_pixels.specs.Answers.{isSome}
+use Rattle.cbf_pixels.specs.Steps.{rest, clamped, Took, biasedLeast, biasedZero, biasedGreatest, pixelAt, Top, Between, Passes, Fails, Passed, Summed, Adds, Summable}
+use Rattle.cbf_pixels.proofs.Bitwise.{or-left, or-right}
+use Rattle.cbf_pixels.proofs.Integers.{subℕ-pos, subℕ-neg, held}
+use Rattle.cbf_pixels.proofs.Numbers.{mag-le}
+use Rattle.cbf_pixels.proofs.Differences.{pos-sub, clamped-near, clamped-far, clamped-small}
+use Rattle.cbf_pixels.proofs.PlainOctets.{plain-took}
+use Rattle.cbf_pixels.proofs.Rest.{some-onto, rest-next, rest-outside, rest-run-out, rest-start, rest-end}
+
+-- ---- differences of numbers: sums and order
+
+-- a sum with an integer
+pub sub-sum : (a b a′ : ℕ) (d : ℤ) → pos a′ ≡ pos a +ℤ d → subℕ a b +ℤ d ≡ subℕ a′ b
+sub-sum a b a′ d e =
+    ap (λ (z : ℤ). z +ℤ d) (sym (pos-sub a b))
+    ∙ +ℤ-assoc (pos a) (negℤ (pos b)) d
+    ∙ ap (λ (z : ℤ). pos a +ℤ z) (+ℤ-comm (negℤ (pos b)) d)
+    ∙ sym (+ℤ-assoc (pos a) d (negℤ (pos b)))
+    ∙ ap (λ (z : ℤ). z +ℤ negℤ (pos b)) (sym e)
+    ∙ pos-sub a′ b
+
+pub sub-down : (a b n : ℕ) → subℕ a b +ℤ negsuc n ≡ subℕ a (b + suc n)
+sub-down a b n =
+    ap (λ (z : ℤ). z +ℤ negsuc n) (sym (pos-sub a b))
+    ∙ +ℤ-assoc (pos a) (negℤ (pos b)) (negsuc n)
+    ∙ ap (λ (z : ℤ). pos a +ℤ z) (sym (negℤ-+ℤ (pos b) (pos (suc n))))
+    ∙ pos-sub a (b + suc n)
+
+leb-same : (a b c d : ℕ) → (a ≤ b → c ≤ d) → (c ≤ d → a ≤ b) → leb a b ≡ leb c d
+leb-same a b c d f g = go (leb a b) (leb c d) refl refl
+  where
+    go : (t u : Bool) → leb a b ≡ t → leb c d ≡ u → t ≡ u
+    go true true p q = refl
+    go true false p q = let h = leb-false c d q in let k = f (leb-true a b p) in let y : ⊥ = omega arith in absurd y
+    go false true p q = let h = leb-false a b p in let k = g (leb-true c d q) in let y : ⊥ = omega arith in absurd y
+    go false false p q = refl
+
+pub sub-order : (a b c d : ℕ) → leZ (subℕ a b) (subℕ c d) ≡ leb (a + d) (c + b)
+sub-order a b c d = go (ltb a b) refl (ltb c d) refl
+  where
+    go : (t : Bool) → ltb a b ≡ t → (u : Bool) → ltb c d ≡ u → leZ (subℕ a b) (subℕ c d) ≡ leb (a + d) (c + b)
+    go true q true r =
+        let h = ltb-true a b q in
+        let k = ltb-true c d r in
+        ap₂ leZ (subℕ-neg a b h) (subℕ-neg c d k) ∙ leb-same (d - suc c) (b - suc a) (a + d) (c + b) (λ l. omega arith) (λ l. omega arith)
+    go true q false r =
+        let h = ltb-true a b q in
+        let k = ltb-false c d r in
+        ap₂ leZ (subℕ-neg a b h) (subℕ-pos c d k) ∙ sym (le-leb (a + d) (c + b) (omega arith))
+    go false q true r =
+        let h = ltb-false a b q in
+        let k = ltb-true c d r in
+        ap₂ leZ (subℕ-pos a b h) (subℕ-neg c d k) ∙ sym (lt-leb (a + d) (c + b) (omega arith))
+    go false q false r =
+        let h = ltb-false a b q in
+        let k = ltb-false c d r in
+        ap₂ leZ (subℕ-pos a b h) (subℕ-pos c d k) ∙ leb-same (a - b) (c - d) (a + d) (c + b) (λ l. omega arith) (λ l. omega arith)
+
+-- ---- biased pixels
+
+least-is : (t : ElementType) → least t ≡ subℕ biasedLeast (biasedZero t)
+least-is U8 = refl
+least-is S8 = refl
+least-is U16 = refl
+least-is S16 = refl
+least-is U32 = refl
+least-is S32 = refl
+
+greatest-is : (t : ElementType) → greatest t ≡ subℕ (biasedGreatest t) (biasedZero t)
+greatest-is U8 = refl
+greatest-is S8 = refl
+greatest-is U16 = refl
+greatest-is S16 = refl
+greatest-is U32 = refl
+greatest-is S32 = refl
+
+zero-is : (t : ElementType) → pixelAt t (biasedZero t) ≡ pos 0
+unfolding pixelAt
+zero-is t = subℕ-pos (biasedZero t) (biasedZero t) (omega arith) ∙ ap pos (omega arith)
+
+zero-between : (t : ElementType) → Between (biasedGreatest t) (biasedZero t)
+zero-between U8 = (omega arith, omega arith)
+zero-between S8 = (omega arith, omega arith)
+zero-between U16 = (omega arith, omega arith)
+zero-between S16 = (omega arith, omega arith)
+zero-between U32 = (omega arith, omega arith)
+zero-between S32 = (omega arith, omega arith)
+
+top-is : (t : ElementType) → Top (biasedGreatest t)
+top-is U8 = record { exponent = 8; parts = 4294967296; whole = refl; size = refl; small = omega arith }
+top-is S8 = record { exponent = 8; parts = 4294967296; whole = refl; size = refl; small = omega arith }
+top-is U16 = record { exponent = 16; parts = 16777216; whole = refl; size = refl; small = omega arith }
+top-is S16 = record { exponent = 16; parts = 16777216; whole = refl; size = refl; small = omega arith }
+top-is U32 = record { exponent = 32; parts = 256; whole = refl; size = refl; small = omega arith }
+top-is S32 = record { exponent = 32; parts = 256; whole = refl; size = refl; small = omega arith }
+
+pub top-small : (top : ℕ) → Top top → top < biasedLeast + 2 ^ 32
+top-small top T = let s = T .size in let l = T .small in omega arith
+
+-- a difference of numbers is in a type's range where the numbers are
+module _ (t : ElementType) (a b : ℕ) where
+  within-is : within (least t) (greatest t) (subℕ a b) ≡ pick (leb (biasedLeast + b) (a + biasedZero t)) (leb (a + biasedZero t) (biasedGreatest t + b)) false
+  unfolding within pick
+  within-is =
+      rw (least-is t, greatest-is t, sub-order biasedLeast (biasedZero t) a b, sub-order a b (biasedGreatest t) (biasedZero t))
+
+  within-in : biasedLeast + b ≤ a + biasedZero t → a + biasedZero t ≤ biasedGreatest t + b → within (least t) (greatest t) (subℕ a b) ≡ true
+  unfolding pick
+  within-in l r =
+      within-is ∙ rw (le-leb (biasedLeast + b) (a + biasedZero t) l, le-leb (a + biasedZero t) (biasedGreatest t + b) r)
+
+  within-low : a + biasedZero t < biasedLeast + b → within (least t) (greatest t) (subℕ a b) ≡ false
+  unfolding pick
+  within-low l = within-is ∙ rw (lt-leb (biasedLeast + b) (a + biasedZero t) l)
+
+  within-high : biasedGreatest t + b < a + biasedZero t → within (least t) (greatest t) (subℕ a b) ≡ false
+  unfolding pick
+  within-high l = within-is ∙ rw (lt-leb (a + biasedZero t) (biasedGreatest t + b) l) (go (leb (biasedLeast + b) (a + biasedZero t)))
+    where
+      go : (c : Bool) → pick c false false ≡ false
+      go true = refl
+      go false = refl
+
+-- ---- clamped differences
+
+-- a difference is clamped or not
+data Clamp (d : ℤ) : Type 0 where
+  near : natAbs d ≤ 2 ^ 33 → clamped d ≡ d → Clamp d
+  far : 2 ^ 33 < natAbs d → clamped d ≡ pos (2 ^ 36) → Clamp d
+
+clamp : (d : ℤ) → Clamp d
+clamp d = go (leb (natAbs d) (2 ^ 33)) refl
+  where
+    go : (c : Bool) → leb (natAbs d) (2 ^ 33) ≡ c → Clamp d
+    go true q = let h = leb-true (natAbs d) (2 ^ 33) q in near h (clamped-near d h)
+    go false q = let h = leb-false (natAbs d) (2 ^ 33) q in far h (clamped-far d h)
+
+pos-is : (a b : ℕ) → pos a ≡ pos b → a ≡ b
+pos-is a b e = cc
+
+-- what the sum of a number and an integer is
+sum-up : (a a′ n : ℕ) → pos a′ ≡ pos a +ℤ pos n → a′ ≡ a + n
+sum-up a a′ n e = pos-is a′ (a + n) e
+
+sum-down : (a a′ n : ℕ) → suc n ≤ a → pos a′ ≡ pos a +ℤ negsuc n → a′ ≡ a - suc n
+sum-down a a′ n h e = pos-is a′ (a - suc n) (e ∙ subℕ-pos a (suc n) h)
+
+-- the sum as the machine computes it
+pub record Sum (a : ℕ) (d : ℤ) : Type 0 where
+  pub total : ℕ
+  pub exact : pos total ≡ pos a +ℤ d
+  pub small : total < 2 ^ 63
+
+pub sum-of : (a : ℕ) (d : ℤ) → 2 ^ 39 ≤ a → a ≤ 2 ^ 42 → natAbs d ≤ 2 ^ 36 → Sum a d
+sum-of a (pos n) l h k = record { total = a + n; exact = refl; small = omega arith }
+sum-of a (negsuc n) l h k =
+    record { total = a - suc n; exact = sym (subℕ-pos a (suc n) (omega arith)); small = omega arith }
+
+pub held-is : (d : ℤ) → natAbs d ≤ 2 ^ 36 → toZ w64 (ofZ w64 d) ≡ d
+held-is d h = held d (omega (arith, mag-le d))
+
+pub held-small : (d : ℤ) → natAbs d ≤ 2 ^ 36 → natAbs (toZ w64 (ofZ w64 d)) ≤ 2 ^ 36
+held-small d h = subst (λ (z : ℤ). natAbs z ≤ 2 ^ 36) (sym (held-is d h)) h
+
+pub computed-is : (a : ℕ) (d : ℤ) → a ≤ 2 ^ 42 → natAbs d ≤ 2 ^ 36 → (s : Sum a d) → toZ w64 a +ℤ toZ w64 (ofZ w64 d) ≡ pos (s .total)
+computed-is a d h k s =
+    let l : a < 2 ^ 63 = omega arith in
+    ap (λ (z : ℤ). z +ℤ toZ w64 (ofZ w64 d)) (toZ-pos w64 l) ∙ ap (λ (z : ℤ). pos a +ℤ z) (held-is d k) ∙ sym (s .exact)
+
+-- how far a clamped difference leads
+reach : (a a′ : ℕ) (d : ℤ) → 2 ^ 33 ≤ a → natAbs d ≤ 2 ^ 33 → pos a′ ≡ pos a +ℤ d → (a ≤ a′ + 2 ^ 33) × (a′ ≤ a + 2 ^ 33)
+reach a a′ (pos n) h k e = let g = sum-up a a′ n e in (omega arith, omega arith)
+reach a a′ (negsuc n) h k e = let g = sum-down a a′ n (omega arith) e in (omega arith, omega arith)
+
+pub clamped-reach : (a a′ : ℕ) (d : ℤ) → 2 ^ 33 ≤ a → pos a′ ≡ pos a +ℤ clamped d → (a ≤ a′ + 2 ^ 33) × (a′ ≤ a + 2 ^ 36)
+clamped-reach a a′ d h e = go (clamp d)
+  where
+    go : Clamp d → (a ≤ a′ + 2 ^ 33) × (a′ ≤ a + 2 ^ 36)
+    go (near l f) =
+        let r = reach a a′ d h l (e ∙ ap (λ (z : ℤ). pos a +ℤ z) f) in
+        (r .0, omega (arith, r .1))
+    go (far l f) = let g = sum-up a a′ (2 ^ 36) (e ∙ ap (λ (z : ℤ). pos a +ℤ z) f) in (omega arith, omega arith)
+
+module _ (t : ElementType) (a a′ : ℕ) (b : Between (biasedGreatest t) a) where
+  small : biasedGreatest t < biasedLeast + 2 ^ 32
+  small = top-small (biasedGreatest t) (top-is t)
+
+  -- a sum that stays in the type is the one with the difference itself
+  sum-in : (d : ℤ) → pos a′ ≡ pos a +ℤ clamped d → Between (biasedGreatest t) a′ → pixelAt t a +ℤ d ≡ pixelAt t a′
+  unfolding pixelAt
+  sum-in d e r = go (clamp d)
+    where
+      go : Clamp d → subℕ a (biasedZero t) +ℤ d ≡ subℕ a′ (biasedZero t)
+      go (near l f) = sub-sum a (biasedZero t) a′ d (e ∙ ap (λ (z : ℤ). pos a +ℤ z) f)
+      go (far l f) =
+          let g = sum-up a a′ (2 ^ 36) (e ∙ ap (λ (z : ℤ). pos a +ℤ z) f) in
+          let y : ⊥ = omega (arith, small, b .0, r .1) in
+          absurd y
+
+  within-between : Between (biasedGreatest t) a′ → within (least t) (greatest t) (pixelAt t a′) ≡ true
+  unfolding pixelAt
+  within-between r = within-in t a′ (biasedZero t) (omega (arith, r .0)) (omega (arith, r .1))
+
+  within-beyond : (Between (biasedGreatest t) a′ → ⊥) → within (least t) (greatest t) (pixelAt t a′) ≡ false
+  unfolding pixelAt
+  within-beyond n = go (ltb a′ biasedLeast) refl (ltb (biasedGreatest t) a′) refl
+    where
+      go : (c : Bool) → ltb a′ biasedLeast ≡ c → (u : Bool) → ltb (biasedGreatest t) a′ ≡ u → within (least t) (greatest t) (subℕ a′ (biasedZero t)) ≡ false
+      go true p u q = let h = ltb-true a′ biasedLeast p in within-low t a′ (biasedZero t) (omega arith)
+      go false p true q = let h = ltb-true (biasedGreatest t) a′ q in within-high t a′ (biasedZero t) (omega arith)
+      go false p false q = absurd (n (ltb-false a′ biasedLeast p, ltb-false (biasedGreatest t) a′ q))
+
+  within-far : (d : ℤ) → 2 ^ 33 < natAbs d → within (least t) (greatest t) (pixelAt t a +ℤ d) ≡ false
+  unfolding pixelAt
+  within-far (pos n) h =
+      ap (within (least t) (greatest t)) (sub-sum a (biasedZero t) (a + n) (pos n) refl)
+      ∙ within-high t (a + n) (biasedZero t) (omega (arith, small, b .0))
+  within-far (negsuc n) h =
+      ap (within (least t) (greatest t)) (sub-down a (biasedZero t) n) ∙ within-low t a (biasedZero t + suc n) (omega (arith, small, b .1))
+
+  -- and one that leaves it leaves it with the difference itself
+  sum-out : (d : ℤ) → pos a′ ≡ pos a +ℤ clamped d → (Between (biasedGreatest t) a′ → ⊥) → within (least t) (greatest t) (pixelAt t a +ℤ d) ≡ false
+  unfolding pixelAt
+  sum-out d e r = go (clamp d)
+    where
+      go : Clamp d → within (least t) (greatest t) (subℕ a (biasedZero t) +ℤ d) ≡ false
+      go (near l f) =
+          ap (within (least t) (greatest t)) (sub-sum a (biasedZero t) a′ d (e ∙ ap (λ (z : ℤ). pos a +ℤ z) f)) ∙ within-beyond r
+      go (far l f) = within-far d l
+
+-- a difference that was read, as it is held
+pub took-small : {os : List ℕ} {i j : ℕ} {value : ℤ} → Took os i value j → natAbs value ≤ 2 ^ 36
+took-small T = let h = clamped-small (T .difference) in let e = ap natAbs (T .near) in omega arith
+
+pub took-sum : (biased biased′ : ℕ) {os : List ℕ} {i j : ℕ} {value : ℤ} → Took os i value j → pos biased′ ≡ pos biased +ℤ toZ w64 (ofZ w64 value) → pos biased′ ≡ pos biased +ℤ value
+took-sum biased biased′ {value = value} T e = e ∙ ap (λ (z : ℤ). pos biased +ℤ z) (held-is value (took-small T))
+
+-- ---- one pixel, and pixels one after the other
+
+counts : (t : ElementType) (os : List ℕ) (z : ℤ) (i n m : ℕ) → n ≡ m → isSome (rest t os z i n) ≡ isSome (rest t os z i m)
+counts t os z i n m e = ap (λ (x : ℕ). isSome (rest t os z i x)) e
+
+module _ {top : ℕ} {os : List ℕ} {biased biased′ i j : ℕ} {value : ℤ} (T : Took os i value j) (b : Between top biased) (e : pos biased′ ≡ pos biased +ℤ value) where
+  sum-is : pos biased′ ≡ pos biased +ℤ clamped (T .difference)
+  sum-is = e ∙ ap (λ (z : ℤ). pos biased +ℤ z) (T .near)
+
+  pub step-in : Between top biased′ → Passes top os biased i 1 biased′ j
+  unfolding Passes
+  step-in r t q m =
+      let b′ = subst (λ (n : ℕ). Between n biased) (sym q) b in
+      let r′ = subst (λ (n : ℕ). Between n biased′) (sym q) r in
+      let s = sum-in t biased biased′ b′ (T .difference) sum-is r′ in
+      let w = ap (within (least t) (greatest t)) s ∙ within-between t biased biased′ b′ r′ in
+      ap isSome (rest-next t os (pixelAt t biased) i m (T .difference) j (T .read) w)
+      ∙ some-onto ((pixelAt t biased +ℤ T .difference) ∷ []) (rest t os (pixelAt t biased +ℤ T .difference) j m)
+      ∙ ap (λ (z : ℤ). isSome (rest t os z j m)) s
+
+  pub step-out : (Between top biased′ → ⊥) → Fails top os biased i 1
+  unfolding Fails isSome
+  step-out r t q m =
+      let b′ = subst (λ (n : ℕ). Between n biased) (sym q) b in
+      let w = sum-out t biased biased′ b′ (T .difference) sum-is (λ r′. r (subst (λ (n : ℕ). Between n biased′) q r′)) in
+      ap isSome (rest-outside t os (pixelAt t biased) i m (T .difference) j (T .read) w)
+
+module _ (top : ℕ) (os : List ℕ) (biased i : ℕ) where
+  pub step-run-out : readBy widths (drop i os) ≡ run-out → Fails top os biased i 1
+  unfolding Fails isSome
+  step-run-out e t q m = ap isSome (rest-run-out t os (pixelAt t biased) i m e)
+
+  pub passes-none : Passes top os biased i 0 biased i
+  unfolding Passes
+  passes-none t q m = counts t os (pixelAt t biased) i (0 + m) m (omega arith)
+
+  pub passes-passes : (n m biased′ j biased″ k : ℕ) → Passes top os biased i n biased′ j → Passes top os biased′ j m biased″ k → Passes top os biased i (n + m) biased″ k
+  unfolding Passes
+  passes-passes n m biased′ j biased″ k p q t e r =
+      counts t os (pixelAt t biased) i (n + m + r) (n + (m + r)) (omega arith) ∙ p t e (m + r) ∙ q t e r
+
+  pub passes-fails : (n m biased′ j : ℕ) → Passes top os biased i n biased′ j → Fails top os biased′ j m → Fails top os biased i (n + m)
+  unfolding Passes Fails
+  passes-fails n m biased′ j p q t e r =
+      counts t os (pixelAt t biased) i (n + m + r) (n + (m + r)) (omega arith) ∙ p t e (m + r) ∙ q t e r
+
+  pub fails-more : (n m : ℕ) → n ≤ m → Fails top os biased i n → Fails top os biased i m
+  unfolding Fails
+  fails-more n m h p t e r =
+      counts t os (pixelAt t biased) i (m + r) (n + (m - n + r)) (omega arith) ∙ p t e (m - n + r)
+
+  -- what a part answers
+  pub passed-not : (n j : ℕ) → Fails top os biased i n → j ≤ length os → Passed top os biased i n 0 j
+  passed-not n j f h = record { failed = λ _. f; passed = λ z. absurd (z refl); inside = h }
+
+  pub passed-to : (n biased′ j : ℕ) → Between top biased′ → Passes top os biased i n biased′ j → j ≤ length os → Passed top os biased i n biased′ j
+  passed-to n biased′ j b p h =
+      record { failed = λ z. let l = b .0 in let y : ⊥ = omega arith in absurd y; passed = λ _. (b, p); inside = h }
+
+  pub passed-stop : (n m biased′ j : ℕ) → Passes top os biased i m biased′ j → Fails top os biased′ j 1 → m < n → Passed top os biased i n 0 0
+  passed-stop n m biased′ j p f h =
+      passed-not n 0 (fails-more (m + 1) n (omega arith) (passes-fails m 1 biased′ j p f)) (omega arith)
+
+-- ---- the bitwise or of biased pixels
+
+or-in : {top : ℕ} → Top top → (a b : ℕ) → Between top a → Between top b → bitOr a b ≤ top
+or-in {top} T a b h k =
+    let s = T .size in
+    let w = T .whole in
+    let x : a - biasedLeast < 2 ^ T .exponent = omega (arith, h .0, h .1) in
+    let y : b - biasedLeast < 2 ^ T .exponent = omega (arith, k .0, k .1) in
+    let ea : T .parts * 2 ^ T .exponent + (a - biasedLeast) ≡ a = omega (arith, h .0) in
+    let eb : T .parts * 2 ^ T .exponent + (b - biasedLeast) ≡ b = omega (arith, k .0) in
+    let e : bitOr a b ≡ bitOr (T .parts) (T .parts) * 2 ^ T .exponent + bitOr (a - biasedLeast) (b - biasedLeast)
+    = ap₂ bitOr (sym ea) (sym eb) ∙ or-block (T .exponent) (T .parts) (T .parts) (a - biasedLeast) (b - biasedLeast) x y in
+    let f : bitOr (T .parts) (T .parts) * 2 ^ T .exponent ≡ biasedLeast = ap (λ (n : ℕ). n * 2 ^ T .exponent) (or-self (T .parts)) ∙ w in
+    omega (arith, e, f, or-lt (T .exponent) (a - biasedLeast) (b - biasedLeast) x y)
+
+-- a pixel below its type sets a bit above all of the type
+or-under : (a b : ℕ) → biasedLeast ≤ a → a < biasedLeast + 2 ^ 32 → 2 ^ 39 ≤ b → b < biasedLeast → biasedLeast + 2 ^ 32 ≤ bitOr a b
+or-under a b h k l m =
+    let x : a / 2 ^ 32 ≡ 256 = omega arith in
+    let y : b / 2 ^ 32 < 2 ^ 8 = omega arith in
+    let y′ : 128 ≤ b / 2 ^ 32 = omega arith in
+    let e : bitOr a b / 2 ^ 32 ≡ 256 + b / 2 ^ 32 = or-shr a b 32 ∙ ap (λ (n : ℕ). bitOr n (b / 2 ^ 32)) x ∙ or-shifted 1 8 (b / 2 ^ 32) y in
+    omega (arith, e)
+
+-- ---- pixels summed up
+
+pub summed-start : (top : ℕ) (os : List ℕ) (biased i : ℕ) → Between top biased → Summed top os biased i 0 biased biasedLeast i
+summed-start top os biased i b =
+    record {
+      good = λ _. (b, passes-none top os biased i);
+      bad = λ h. let y : ⊥ = omega (arith, b .0, b .1) in absurd y;
+      least = omega arith;
+    }
+
+module _ (top : ℕ) (os : List ℕ) (b₀ i₀ n biased all i biased′ j : ℕ) (value : ℤ) (R : Top top) (X : Summed top os b₀ i₀ n biased all i)
+    (T : Took os i value j) (e : pos biased′ ≡ pos biased +ℤ value) (far : 2 ^ 39 ≤ biased′) where
+  pub summed-step : Summed top os b₀ i₀ (n + 1) biased′ (bitOr all biased′) j
+  summed-step = record { good = good; bad = bad; least = omega (arith, or-left all biased′, X .least) }
+    where
+      good : bitOr all biased′ ≤ top → Between top biased′ × Passes top os b₀ i₀ (n + 1) biased′ j
+      good g =
+          let a : all ≤ top = omega (arith, or-left all biased′) in
+          let r : biased′ ≤ top = omega (arith, or-right all biased′) in
+          let l : biasedLeast ≤ biased′ = go (ltb biased′ biasedLeast) refl a g in
+          let G = X .good a in
+          ((l, r), passes-passes top os b₀ i₀ n 1 biased i biased′ j (G .1) (step-in T (G .0) e (l, r)))
+        where
+          go : (c : Bool) → ltb biased′ biasedLeast ≡ c → all ≤ top → bitOr all biased′ ≤ top → biasedLeast ≤ biased′
+          go true q a g =
+              let u = ltb-true biased′ biasedLeast q in
+              let s = top-small top R in
+              let y : ⊥ = omega (arith, or-under all biased′ (X .least) (omega arith) far u) in
+              absurd y
+          go false q a g = ltb-false biased′ biasedLeast q
+
+      bad : top < bitOr all biased′ → Fails top os b₀ i₀ (n + 1)
+      bad g = go (ltb top all) refl
+        where
+          go : (c : Bool) → ltb top all ≡ c → Fails top os b₀ i₀ (n + 1)
+          go true q = fails-more top os b₀ i₀ n (n + 1) (omega arith) (X .bad (ltb-true top all q))
+          go false q =
+              let a = ltb-false top all q in
+              let G = X .good a in
+              passes-fails top os b₀ i₀ n 1 biased i (G .1)
+              (step-out T (G .0) e (λ r. let y : ⊥ = omega (arith, or-in R all biased′ (X .least, a) r) in absurd y))
+
+pub adds-none : (os : List ℕ) (biased all i : ℕ) → i ≤ length os → Adds os 0 biased all i biased all i
+adds-none os biased all i h =
+    record {
+      sums = λ top b₀ i₀ n₀ R X. subst (λ (n : ℕ). Summed top os b₀ i₀ n biased all i) (omega arith) X;
+      low = omega arith;
+      high = omega arith;
+      reach = omega arith;
+      inside = h;
+    }
+
+pub adds-one : (os : List ℕ) (biased all i biased′ j : ℕ) (value : ℤ) → Summable 1 biased → Took os i value j → pos biased′ ≡ pos biased +ℤ value
+    → Adds os 1 biased all i biased′ (bitOr all biased′) j
+adds-one os biased all i biased′ j value s T e =
+    let l = s .0 in
+    let r = clamped-reach biased biased′ (T .difference) (omega arith) (e ∙ ap (λ (z : ℤ). pos biased +ℤ z) (T .near)) in
+    record {
+      sums = λ top b₀ i₀ n₀ R X. summed-step top os b₀ i₀ n₀ biased all i biased′ j value R X T e (omega (arith, r .0));
+      low = omega (arith, r .0);
+      high = omega (arith, r .1);
+      reach = T .reach;
+      inside = T .inside;
+    }
+
+pub adds-adds : (os : List ℕ) (n m biased all i biased′ all′ j biased″ all″ k : ℕ) → Adds os n biased all i biased′ all′ j → Adds os m biased′ all′ j biased″ all″ k
+    → Adds os (n + m) biased all i biased″ all″ k
+adds-adds os n m biased all i biased′ all′ j biased″ all″ k A B =
+    record {
+      sums = λ top b₀ i₀ n₀ R X. subst (λ (x : ℕ). Summed top os b₀ i₀ x biased″ all″ k) (omega arith) (B .sums top b₀ i₀ (n₀ + n) R (A .sums top b₀ i₀ n₀ R X));
+      low = let x = A .low in let y = B .low in omega arith;
+      high = let x = A .high in let y = B .high in omega arith;
+      reach = let x = A .reach in let y = B .reach in omega arith;
+      inside = B .inside;
+    }
+
+module _ (top : ℕ) (os : List ℕ) (biased i n biased′ all j : ℕ) where
+  pub adds-summed : Top top → Between top biased → Adds os n biased biasedLeast i biased′ all j → Summed top os biased i n biased′ all j
+  adds-summed R b A =
+      subst (λ (x : ℕ). Summed top os biased i x biased′ all j) (omega arith) (A .sums top biased i 0 R (summed-start top os biased i b))
+
+  -- what a part answers after a sum
+  pub summed-to : Summed top os biased i n biased′ all j → all ≤ top → j ≤ length os → Passed top os biased i n biased′ j
+  summed-to X a h = let G = X .good a in passed-to top os biased i n biased′ j (G .0) (G .1) h
+
+  pub summed-not : (m k : ℕ) → Summed top os biased i n biased′ all j → top < all → n ≤ m → k ≤ length os → Passed top os biased i m 0 k
+  summed-not m k X a l h = passed-not top os biased i m k (fails-more top os biased i n m l (X .bad a)) h
+
+-- ---- a plain octet
+
+pub adds-plain : (os : List ℕ) (n b₀ a₀ i biased all biased′ : ℕ) (d : ℤ) → Adds os n b₀ a₀ i biased all (i + n) → Summable 1 biased → i + n < length os
+    → (getD os (i + n) 0 ≡ 128 → ⊥) → d ≡ signed 1 (getD os (i + n) 0) → pos biased′ ≡ pos biased +ℤ d → Adds os (n + 1) b₀ a₀ i biased′ (bitOr all biased′) (i + (n + 1))
+adds-plain os n b₀ a₀ i biased all biased′ d A s h p v e =
+    let T = plain-took os (i + n) h p in
+    let x : i + n + 1 ≡ i + (n + 1) = omega arith in
+    subst (λ (k : ℕ). Adds os (n + 1) b₀ a₀ i biased′ (bitOr all biased′) k) x
+    (adds-adds os n 1 b₀ a₀ i biased all (i + n) biased′ (bitOr all biased′) (i + n + 1) A
+    (adds-one os biased all (i + n) biased′ (i + n + 1) (signed 1 (getD os (i + n) 0)) s T (e ∙ ap (λ (z : ℤ). pos biased +ℤ z) v)))
+
+-- ---- all pixels
+
+pub top-at : (t : ElementType) {top : ℕ} → top ≡ biasedGreatest t → Top top
+top-at t g = subst Top (sym g) (top-is t)
+
+pub start-at : (t : ElementType) {top start : ℕ} → top ≡ biasedGreatest t → start ≡ biasedZero t → Between top start
+start-at t {start = start} g z =
+    subst (λ (x : ℕ). Between x start) (sym g) (subst (Between (biasedGreatest t)) (sym z) (zero-between t))
+
+module _ (t : ElementType) (os : List ℕ) (count top start : ℕ) (g : top ≡ biasedGreatest t) (z : start ≡ biasedZero t) where
+  whole-is : isSome (unpackByteOffset t count os) ≡ isSome (rest t os (pixelAt t start) 0 (count + 0))
+  whole-is =
+      ap isSome (rest-start t os count)
+      ∙ ap (λ (x : ℤ). isSome (rest t os x 0 count)) (sym (ap (pixelAt t) z ∙ zero-is t))
+      ∙ counts t os (pixelAt t start) 0 count (count + 0) (omega arith)
+
+  pub unpacks-not : Fails top os start 0 count → false ≡ isSome (unpackByteOffset t count os)
+  unfolding Fails
+  unpacks-not f = sym (whole-is ∙ f t (sym g) 0)
+
+  pub unpacks-to : (biased j : ℕ) → Passes top os start 0 count biased j → j ≤ length os → eqb j (length os) ≡ isSome (unpackByteOffset t count os)
+  unfolding Passes
+  unpacks-to biased j p h = sym (whole-is ∙ p t (sym g) 0 ∙ rest-end t os (pixelAt t biased) j h)

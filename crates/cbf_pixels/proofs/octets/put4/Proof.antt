@@ -1,0 +1,31 @@
+use borrow.Author.Needs.{needs}
+use Prim.Native.Nat.{ℕ, _+_, _/_}
+use mathlib.Core.Path.{ap, _∙_}
+use mathlib.Core.List.{List}
+use lib.Seq.{sets}
+use Rattle.cbf_pixels.specs.Octets.{octets}
+use Rattle.cbf_pixels.proofs.Little.{octets-parts}
+use Rattle.cbf_pixels.proofs.octets.put4.Statement.{statement}
+use Rattle.cbf_pixels.proofs.octets.put4.Tie as tie
+
+put2-requires : tie.Need-put2-requires
+put2-requires c κs = search needs
+
+add-put2 : tie.Need-add-put2
+add-put2 c = search needs
+
+put2-requires-2 : tie.Need-put2-requires-2
+put2-requires-2 c κs = search needs
+
+same-length : tie.Need-same-length
+same-length c = search needs
+
+returns : tie.Need-returns
+returns c =
+    let a = c .before .before .before .before .before .before .before .before .before .args in
+    c .before .before .put22 .ensures
+    ∙ ap (λ (l : List ℕ). sets l (a .at + 2) (octets 2 (a .n / 65536))) (c .before .before .before .before .before .before .put2 .ensures)
+    ∙ octets-parts (a .out .now) (a .at) 2 2 (a .n)
+
+pub put4-spec : {M : Type 1} → statement M
+put4-spec = tie.close (tie.spec put2-requires add-put2 put2-requires-2 same-length returns)

@@ -1,0 +1,59 @@
+use mathlib.Core.Path.{_≡_, sym, _∙_}
+use mathlib.Core.Bool.{true, false}
+use native.Mathlib.Omega.{arith}
+use Prim.Native.Nat.{_≤_, _<_}
+use borrow.Author.Tests.{not-true, not-false}
+use Rattle.cbf_pixels.specs.declared.Compression.the-variants.{ByteOffset}
+use Rattle.cbf_pixels.specs.Answers.{unpackPixels}
+use Rattle.cbf_pixels.proofs.Calls.{Unpacked, unpack-bad, unpack-no-room, unpack-done}
+use borrow.Author.Needs.{needs}
+use Rattle.cbf_pixels.proofs.unpack_byte_offset.Statement.{statement}
+use Rattle.cbf_pixels.proofs.unpack_byte_offset.Tie as tie
+
+validate-requires : tie.Need-validate-requires
+validate-requires c κs = search needs
+
+refused-requires : tie.Need-refused-requires
+refused-requires c κs = search needs
+
+returns : tie.Need-returns
+unfolding Unpacked unpackPixels
+returns c =
+    let a = c .before .before .before .before .args in
+    let u = unpack-bad ByteOffset (a .kind) (a .count) (a .octets .now) (a .out .now) (c .before .before .before .before .pre) (sym (c .before .before .validate .ensures) ∙ not-true _ (c .before .if1 .taken)) in
+    (c .refused .ensures ∙ u .0, u .1)
+
+refused-requires-2 : tie.Need-refused-requires-2
+refused-requires-2 c κs = search needs
+
+returns-2 : tie.Need-returns-2
+unfolding Unpacked unpackPixels
+returns-2 c =
+    let a = c .before .before .before .before .before .args in
+    let u = unpack-no-room ByteOffset (a .kind) (a .count) (a .octets .now) (a .out .now) (c .before .before .before .before .before .pre) (sym (c .before .before .before .validate .ensures) ∙ not-false _ (c .before .before .if1 .left)) (c .before .if2 .taken) in
+    (c .refused2 .ensures ∙ u .0, u .1)
+
+fill-requires : tie.Need-fill-requires
+fill-requires c κs = (sym (c .before .before .before .validate .ensures) ∙ not-false _ (c .before .before .if1 .left), c .before .if2 .left)
+
+same-length : tie.Need-same-length
+same-length c = search needs
+
+returns-3 : tie.Need-returns-3
+unfolding Unpacked unpackPixels
+returns-3 c =
+    let a = c .before .before .before .before .before .before .before .args in
+    unpack-done ByteOffset (a .kind) (a .count) (a .octets .now) (a .out .now) _ (c .before .before .before .before .before .before .before .pre) (sym (c .before .before .before .before .before .validate .ensures) ∙ not-false _ (c .before .before .before .before .if1 .left)) (c .before .before .before .if2 .left) (c .before .fill .ensures)
+
+pub unpack-byte-offset-spec : {M : Type 1} → statement M
+unpack-byte-offset-spec =
+    tie.close
+    (tie.spec
+    validate-requires
+    refused-requires
+    returns
+    refused-requires-2
+    returns-2
+    fill-requires
+    same-length
+    returns-3)

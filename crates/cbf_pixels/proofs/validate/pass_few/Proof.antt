@@ -1,0 +1,46 @@
+-- `pass_few` meets its contract. Assumes nothing.
+use borrow.Author.Needs.{needs}
+use native.Mathlib.Omega.{arith}
+use Prim.Native.Nat.{ℕ}
+use mathlib.Core.Path.{_≡_, subst}
+use Rattle.cbf_pixels.specs.Steps.{Passed}
+use Rattle.cbf_pixels.proofs.validate.pass_few.Statement.{statement}
+use Rattle.cbf_pixels.proofs.validate.pass_few.Tie as tie
+
+pass-each-requires : tie.Need-pass-each-requires
+pass-each-requires c κs = search needs
+
+returns : tie.Need-returns
+returns c = search needs
+
+sub-if2 : tie.Need-sub-if2
+sub-if2 c = search needs
+
+pass-each-requires-2 : tie.Need-pass-each-requires-2
+pass-each-requires-2 c κs = search needs
+
+returns-2 : tie.Need-returns-2
+returns-2 c = search needs
+
+pass-32-requires : tie.Need-pass-32-requires
+pass-32-requires c κs = search needs
+
+returns-3 : tie.Need-returns-3
+returns-3 c =
+    let a = c .before .before .before .before .args in
+    let p = c .before .before .before .before .pre in
+    let r = c .pass-32 .result in
+    let e : 32 ≡ a .n = omega (arith, p .3, c .before .before .if1 .left) in
+    subst (λ (n : ℕ). Passed (a .top) (a .octets .now) (a .biased) (a .i) n (r .biased) (r .next)) e (c .pass-32 .ensures)
+
+pub pass-few-spec : {M : Type 1} → statement M
+pass-few-spec =
+    tie.close
+    (tie.spec
+    pass-each-requires
+    returns
+    sub-if2
+    pass-each-requires-2
+    returns-2
+    pass-32-requires
+    returns-3)

@@ -1,0 +1,33 @@
+-- `write::put_15` meets its contract: one run of stores after another. Assumes nothing.
+use borrow.Author.Needs.{needs}
+use Prim.Native.Nat.{ℕ, _+_}
+use mathlib.Core.Path.{refl, ap, _∙_}
+use mathlib.Core.List.{List, _++_}
+use lib.Seq.{sets}
+use Rattle.cbf_pixels.specs.Octets.{octets}
+use Rattle.cbf_pixels.proofs.Writing.{sets-then}
+use Rattle.cbf_pixels.proofs.write.put_15.Statement.{statement}
+use Rattle.cbf_pixels.proofs.write.put_15.Tie as tie
+
+put-7-requires : tie.Need-put-7-requires
+put-7-requires c κs = search needs
+
+add-put8 : tie.Need-add-put8
+add-put8 c = search needs
+
+put8-requires : tie.Need-put8-requires
+put8-requires c κs = search needs
+
+same-length : tie.Need-same-length
+same-length c = search needs
+
+returns : tie.Need-returns
+unfolding octets
+returns c =
+    let a = c .before .before .before .before .before .before .before .before .before .args in
+    c .before .before .put8 .ensures
+    ∙ ap (λ (l : List ℕ). sets l (a .at + 7) (octets 8 (a .n))) (c .before .before .before .before .before .before .put-7 .ensures)
+    ∙ sets-then (a .out .now) (a .at) 7 (octets 1 128 ++ octets 2 32768 ++ octets 4 2147483648) (octets 8 (a .n)) refl
+
+pub put-15-spec : {M : Type 1} → statement M
+put-15-spec = tie.close (tie.spec put-7-requires add-put8 put8-requires same-length returns)

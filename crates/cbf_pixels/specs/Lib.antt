@@ -1,0 +1,5 @@
+pub mod Octets
+pub mod Pixels
+pub mod Uncompressed
+pub mod Answers
+pub mod Steps

@@ -1,0 +1,223 @@
+-- What the parts of packing and unpacking say of their work: for the contracts of the private functions. Nothing here is
+-- part of what the public calls promise.
+use Prim.Native.Nat.{ℕ, zero, suc, _+_, _*_, _-_, _%_, _^_, _<_, _≤_}
+use mathlib.Core.Path.{_≡_}
+use mathlib.Core.List.{List, [], _∷_, _++_}
+use mathlib.Core.Bool.{Bool, true, false}
+use mathlib.Core.Option.{Option, none, some}
+use lib.Dec.{leb, ltb}
+use lib.ListN.{length, take, drop, getD}
+use lib.Seq.{sets}
+use lib.IntN.{ℤ, pos, negsuc, subℕ, natAbs}
+use lib.Signed.{mag, shrZ}
+use Rattle.cbf_pixels.specs.Octets.{pick}
+use Rattle.cbf_pixels.specs.Pixels as P
+use Rattle.cbf_pixels.specs.Pixels.{Read, run-out, got, readBy, widths, within, allWithin, unpackFrom, packFrom, packByteOffset, least, greatest}
+use Rattle.cbf_pixels.specs.Uncompressed.{octetsPer}
+use Rattle.cbf_pixels.specs.Answers.{isSome}
+use Rattle.cbf_pixels.specs.declared.ElementType.{ElementType}
+use Rattle.cbf_pixels.specs.declared.measure.Size.{Size}
+use Rattle.cbf_pixels.specs.declared.measure.Size.the-variants.{Outside, Octets}
+use Rattle.cbf_pixels.specs.declared.ElementType.the-variants.{U8, S8, U16, S16, U32, S32}
+
+-- ---- one difference
+
+-- half of the numbers of a width, which is a power of two: n is a number of that width
+pub record Halved (half n : ℕ) : Type 0 where
+  pub exponent : ℕ
+  pub power : half ≡ 2 ^ exponent
+  pub small : exponent ≤ 31
+  pub fits : n < 2 * half
+
+-- a difference of which no type has a pixel either way is held as 2^36: sums of it stay far outside, and never wrap
+unfoldable pub clamped : ℤ → ℤ
+unfolding pick
+clamped (pos n) = pick (leb n (2 ^ 33)) (pos n) (pos (2 ^ 36))
+clamped (negsuc n) = pick (ltb n (2 ^ 33)) (negsuc n) (pos (2 ^ 36))
+
+-- a whole difference stands at i
+abbrev pub Whole : List ℕ → ℕ → Type 0
+Whole os i = readBy widths (drop i os) ≡ run-out → ⊥
+
+-- the difference at i, clamped, is value, and the next one starts at j
+pub record Took (os : List ℕ) (i : ℕ) (value : ℤ) (j : ℕ) : Type 0 where
+  pub difference : ℤ
+  pub read : readBy widths (drop i os) ≡ got difference (drop j os)
+  pub near : value ≡ clamped difference
+  pub ahead : i < j
+  pub reach : j ≤ i + 15
+  pub inside : j ≤ length os
+
+-- none of the n octets from i is the escape 80, so that each is a difference
+abbrev pub Plain : List ℕ → ℕ → ℕ → Type 0
+Plain os i n = (j : ℕ) → j < n → getD os (i + j) 0 ≡ 128 → ⊥
+
+-- a run of plain octets, in blocks of 32
+pub record PlainRun (os : List ℕ) (i limit n : ℕ) : Type 0 where
+  pub plain : Plain os i n
+  pub few : n ≤ limit
+  pub inside : i + n ≤ length os
+  pub blocks : n % 32 ≡ 0
+
+-- what is left to unpack after the pixel z: n pixels, from the octet i on
+unfoldable pub rest : ElementType → List ℕ → ℤ → ℕ → ℕ → Option (List ℤ)
+rest t os z i n = unpackFrom (least t) (greatest t) z n (drop i os)
+
+-- ---- The first pass. It holds a pixel "biased": as its distance above the type's least one, plus 2^40.
+
+abbrev pub biasedLeast : ℕ
+biasedLeast = 1099511627776
+
+abbrev pub biasedZero : ElementType → ℕ
+biasedZero U8 = biasedLeast
+biasedZero S8 = biasedLeast + 128
+biasedZero U16 = biasedLeast
+biasedZero S16 = biasedLeast + 32768
+biasedZero U32 = biasedLeast
+biasedZero S32 = biasedLeast + 2147483648
+
+abbrev pub biasedGreatest : ElementType → ℕ
+biasedGreatest U8 = biasedLeast + 255
+biasedGreatest S8 = biasedLeast + 255
+biasedGreatest U16 = biasedLeast + 65535
+biasedGreatest S16 = biasedLeast + 65535
+biasedGreatest U32 = biasedLeast + 4294967295
+biasedGreatest S32 = biasedLeast + 4294967295
+
+-- the pixel that a biased one stands for
+unfoldable pub pixelAt : ElementType → ℕ → ℤ
+pixelAt t biased = subℕ biased (biasedZero t)
+
+-- the greatest biased pixel of some type
+pub record Top (top : ℕ) : Type 0 where
+  pub exponent : ℕ
+  pub parts : ℕ
+  pub whole : parts * 2 ^ exponent ≡ biasedLeast
+  pub size : top + 1 ≡ biasedLeast + 2 ^ exponent
+  pub small : 2 ^ exponent ≤ 4294967296
+
+abbrev pub Between : ℕ → ℕ → Type 0
+Between top biased = (biasedLeast ≤ biased) × (biased ≤ top)
+
+-- n pixels from the octet i on, after biased, lead to biased′ and the octet j: what is left unpacks exactly when what is
+-- left after them does
+unfoldable pub Passes : ℕ → List ℕ → ℕ → ℕ → ℕ → ℕ → ℕ → Type 0
+Passes top os biased i n biased′ j =
+    (t : ElementType) → biasedGreatest t ≡ top → (m : ℕ) → isSome (rest t os (pixelAt t biased) i (n + m)) ≡ isSome (rest t os (pixelAt t biased′) j m)
+
+-- the n pixels from the octet i on do not unpack
+unfoldable pub Fails : ℕ → List ℕ → ℕ → ℕ → ℕ → Type 0
+Fails top os biased i n = (t : ElementType) → biasedGreatest t ≡ top → (m : ℕ) → isSome (rest t os (pixelAt t biased) i (n + m)) ≡ false
+
+-- what a part of the first pass answers: 0 for pixels that do not unpack, else where the n pixels lead
+pub record Passed (top : ℕ) (os : List ℕ) (biased i n biased′ j : ℕ) : Type 0 where
+  pub failed : biased′ ≡ 0 → Fails top os biased i n
+  pub passed : (biased′ ≡ 0 → ⊥) → Between top biased′ × Passes top os biased i n biased′ j
+  pub inside : j ≤ length os
+
+-- The biased pixels are summed up without a test, and all is the bitwise or of them: one of the n pixels was outside the
+-- type exactly when all is above top, as the type's size is a power of two.
+pub record Summed (top : ℕ) (os : List ℕ) (biased i n biased′ all j : ℕ) : Type 0 where
+  pub good : all ≤ top → Between top biased′ × Passes top os biased i n biased′ j
+  pub bad : top < all → Fails top os biased i n
+  pub least : biasedLeast ≤ all
+
+-- n more pixels are summed up, from biased, all and the octet i to biased′, all′ and the octet j
+pub record Adds (os : List ℕ) (n biased all i biased′ all′ j : ℕ) : Type 0 where
+  pub sums : (top b₀ i₀ n₀ : ℕ) → Top top → Summed top os b₀ i₀ n₀ biased all i → Summed top os b₀ i₀ (n₀ + n) biased′ all′ j
+  pub low : biased ≤ biased′ + n * 2 ^ 33
+  pub high : biased′ ≤ biased + n * 2 ^ 36
+  pub reach : j ≤ i + 15 * n
+  pub inside : j ≤ length os
+
+-- biased is such that n more pixels can be summed up
+abbrev pub Summable : ℕ → ℕ → Type 0
+Summable n biased = (2 ^ 39 + n * 2 ^ 33 ≤ biased) × (biased + n * 2 ^ 36 ≤ 2 ^ 42)
+
+-- ---- The second pass. It tests nothing: its callers know that what is left unpacks, and that z, the last pixel, is in the
+-- range of some type, so that sums do not wrap.
+
+pub record Unpacks (os : List ℕ) (z : ℤ) (i n : ℕ) : Type 0 where
+  pub type : ElementType
+  pub more : ℕ
+  pub says : isSome (rest type os z i (n + more)) ≡ true
+  pub before : mag z < 2 ^ 32
+
+abbrev pub onto : List ℤ → Option (List ℤ) → Option (List ℤ)
+onto xs none = none
+onto xs (some ps) = some (xs ++ ps)
+
+-- the n pixels after z were written to out from k on, giving out′; they lead to the pixel z′ and the octet j
+pub record Filled (os : List ℕ) (z : ℤ) (i n : ℕ) (z′ : ℤ) (j k : ℕ) (out out′ : List ℤ) : Type 0 where
+  pub pixels : List ℤ
+  pub many : length pixels ≡ n
+  pub wrote : out′ ≡ sets out k pixels
+  pub leads : (t : ElementType) (m : ℕ) → isSome (rest t os z i (n + m)) ≡ true → rest t os z i (n + m) ≡ onto pixels (rest t os z′ j m)
+  pub after : mag z′ < 2 ^ 32
+  pub inside : j ≤ length os
+
+-- ---- Packing
+
+-- two numbers of the same 128, from a multiple of 128 on: their difference takes one octet, and no type's range ends
+-- between them
+unfoldable pub SameWindow : ℤ → ℤ → Type 0
+SameWindow y z = shrZ y 128 ≡ shrZ z 128
+
+-- n pixels from k on, in blocks of 32, each in the window of last
+pub record WindowRun (ps : List ℤ) (k : ℕ) (last : ℤ) (n : ℕ) : Type 0 where
+  pub same : (j : ℕ) → j < n → SameWindow (getD ps (k + j) (pos 0)) last
+  pub inside : k + n ≤ length ps
+  pub blocks : n % 32 ≡ 0
+
+-- the n pixels from k on
+abbrev pub part : List ℤ → ℕ → ℕ → List ℤ
+part ps k n = take n (drop k ps)
+
+-- the last of the pixels, where z stands before them
+unfoldable pub lastOf : ℤ → List ℤ → ℤ
+lastOf z [] = z
+lastOf z (p ∷ ps) = lastOf p ps
+
+-- the octets that pixels after z take, and 0 where one of them is outside lo to hi
+unfoldable pub sizeWithin : ℤ → ℤ → ℤ → List ℤ → ℕ
+unfolding pick
+sizeWithin lo hi z ps = pick (allWithin lo hi ps) (length (packFrom z ps)) 0
+
+-- a pixel of some type
+abbrev pub Small : ℤ → Type 0
+Small z = natAbs z < 2 ^ 33
+
+-- lo and hi are the bounds of a type, and z is from lo to hi
+pub record Typed (lo hi z : ℤ) : Type 0 where
+  pub type : ElementType
+  pub least : lo ≡ P.least type
+  pub greatest : hi ≡ P.greatest type
+  pub inside : within lo hi z ≡ true
+
+-- what the first pass of packing finds
+unfoldable pub sizeOf : ElementType → List ℤ → Size
+unfolding pick
+sizeOf t ps = pick (allWithin (P.least t) (P.greatest t) ps) (Octets (length (packByteOffset ps))) Outside
+
+abbrev pub AllSmall : List ℤ → Type 0
+AllSmall [] = Unit {0}
+AllSmall (z ∷ zs) = Small z × AllSmall zs
+
+-- the octets of the n pixels from k on, after last, have room from at on
+pub record Writable (ps : List ℤ) (k n : ℕ) (last : ℤ) (out : List ℕ) (at : ℕ) : Type 0 where
+  pub small : AllSmall ps
+  pub before : Small last
+  pub pixels : k + n ≤ length ps
+  pub room : at + length (packFrom last (part ps k n)) ≤ length out
+
+-- they were written there, giving out′, and the next ones go to next
+pub record Wrote (ps : List ℤ) (k n : ℕ) (last : ℤ) (out : List ℕ) (at : ℕ) (out′ : List ℕ) (next : ℕ) : Type 0 where
+  pub octets : out′ ≡ sets out at (packFrom last (part ps k n))
+  pub after : next ≡ at + length (packFrom last (part ps k n))
+
+-- ---- Uncompressed pixels
+
+-- the octets of an element of some type
+pub record Width (width : ℕ) : Type 0 where
+  pub type : ElementType
+  pub is : width ≡ octetsPer type

@@ -1,0 +1,227 @@
+// The first pass of unpacking: whether octets unpack. It writes nothing.
+use crate::ElementType;
+use crate::difference;
+use crate::octets;
+use crate::plain;
+ghost use mathlib.Core.Path.{_≡_};
+ghost use Prim.Native.Nat.{_+_, _%_, _<_, _≤_, _^_};
+ghost use lib.ListN.{length};
+ghost use lib.IntN.{pos, natAbs, _+ℤ_};
+ghost use Rattle.cbf_pixels.specs.Pixels.{unpackByteOffset};
+ghost use Rattle.cbf_pixels.specs.Answers.{isSome};
+ghost use Rattle.cbf_pixels.specs.Steps.{Whole, Plain, biasedLeast, biasedZero, biasedGreatest, Top, Between, Passed, Adds, Summable};
+
+const BIASED_LEAST: u64 = 1099511627776;
+
+fn biased_zero(kind: ElementType) -> u64
+    ensures { λ r. ⌜ r ≡ biasedZero kind ⌝ }
+{
+    match kind {
+        ElementType::U8 => 1099511627776,
+        ElementType::S8 => 1099511627904,
+        ElementType::U16 => 1099511627776,
+        ElementType::S16 => 1099511660544,
+        ElementType::U32 => 1099511627776,
+        ElementType::S32 => 1101659111424,
+    }
+}
+
+fn biased_greatest(kind: ElementType) -> u64
+    ensures { λ r. ⌜ r ≡ biasedGreatest kind ⌝ }
+{
+    match kind {
+        ElementType::U8 => 1099511628031,
+        ElementType::S8 => 1099511628031,
+        ElementType::U16 => 1099511693311,
+        ElementType::S16 => 1099511693311,
+        ElementType::U32 => 1103806595071,
+        ElementType::S32 => 1103806595071,
+    }
+}
+
+fn sum(biased: u64, d: i64) -> u64
+    requires { ⌜ (2 ^ 39 ≤ biased) × (biased ≤ 2 ^ 42) × (natAbs d ≤ 2 ^ 36) ⌝ }
+    ensures { λ r. ⌜ pos r ≡ pos biased +ℤ d ⌝ }
+{
+    (biased as i64 + d) as u64
+}
+
+// Biased pixels summed up: the last one, the bitwise or of all, and where the next difference starts.
+pub struct Sums {
+    pub biased: u64,
+    pub all: u64,
+    pub next: usize,
+}
+
+// The 32 plain octets from s.next on.
+fn add_block(octets: &[u8], s: Sums) -> Sums
+    requires { ⌜ (s .next + 32 ≤ length (now octets)) × Plain (now octets) (s .next) 32 × Summable 32 (s .biased) ⌝ }
+    ensures { λ r. ⌜ Adds (now (octets .entry)) 32 (s .biased) (s .all) (s .next) (r .biased) (r .all) (r .next) × (r .next ≡ s .next + 32) ⌝ }
+{
+    let i = s.next;
+    let mut biased = s.biased;
+    let mut all = s.all;
+    let mut j: usize = 0;
+    while j < 32 {
+        biased = sum(
+            biased,
+            difference::extended(octets::wide(octets[i + j]), 128),
+        );
+        all = all | biased;
+        j += 1;
+    }
+    Sums {
+        biased: biased,
+        all: all,
+        next: i + 32,
+    }
+}
+
+// The biased pixel after n plain octets from i on, or 0 where one of the pixels is outside its type.
+fn pass_run(octets: &[u8], i: usize, n: usize, biased: u64, top: u64) -> u64
+    requires { ⌜ Top top × Between top biased × (i + n ≤ length (now octets)) × Plain (now octets) i n × (n % 32 ≡ 0) ⌝ }
+    ensures { λ r. ⌜ Passed top (now (octets .entry)) biased i n r (i + n) ⌝ }
+{
+    let mut s = Sums {
+        biased: biased,
+        all: BIASED_LEAST,
+        next: i,
+    };
+    let mut j: usize = 0;
+    while j < n {
+        s = add_block(octets, s);
+        if top < s.all {
+            return 0;
+        }
+        j += 32;
+    }
+    s.biased
+}
+
+fn add_one(octets: &[u8], s: Sums) -> Sums
+    requires { ⌜ (s .next + 15 ≤ length (now octets)) × Summable 1 (s .biased) ⌝ }
+    ensures { λ r. ⌜ Adds (now (octets .entry)) 1 (s .biased) (s .all) (s .next) (r .biased) (r .all) (r .next) ⌝ }
+{
+    let i = s.next;
+    let d = difference::read_difference(octets, i);
+    let biased = sum(s.biased, d.value);
+    Sums {
+        biased: biased,
+        all: s.all | biased,
+        next: d.next,
+    }
+}
+
+fn add_four(octets: &[u8], s: Sums) -> Sums
+    requires { ⌜ (s .next + 60 ≤ length (now octets)) × Summable 4 (s .biased) ⌝ }
+    ensures { λ r. ⌜ Adds (now (octets .entry)) 4 (s .biased) (s .all) (s .next) (r .biased) (r .all) (r .next) ⌝ }
+{
+    let a = add_one(octets, s);
+    let b = add_one(octets, a);
+    let c = add_one(octets, b);
+    add_one(octets, c)
+}
+
+// The last biased pixel, 0 where pixels do not unpack, and where the next difference starts.
+pub struct State {
+    pub biased: u64,
+    pub next: usize,
+}
+
+// 32 pixels, where so many octets are left that none can run out of them.
+fn pass_32(octets: &[u8], i: usize, biased: u64, top: u64) -> State
+    requires { ⌜ Top top × Between top biased × (i + 480 ≤ length (now octets)) ⌝ }
+    ensures { λ r. ⌜ Passed top (now (octets .entry)) biased i 32 (r .biased) (r .next) ⌝ }
+{
+    let mut s = Sums {
+        biased: biased,
+        all: BIASED_LEAST,
+        next: i,
+    };
+    let mut j: usize = 0;
+    while j < 32 {
+        s = add_four(octets, s);
+        j += 4;
+    }
+    if top < s.all {
+        return State { biased: 0, next: 0 };
+    }
+    State {
+        biased: s.biased,
+        next: s.next,
+    }
+}
+
+// n pixels, each tested by itself.
+fn pass_each(octets: &[u8], i: usize, biased: u64, top: u64, n: usize) -> State
+    requires { ⌜ Top top × Between top biased × (i ≤ length (now octets)) ⌝ }
+    ensures { λ r. ⌜ Passed top (now (octets .entry)) biased i n (r .biased) (r .next) ⌝ }
+{
+    let mut last = biased;
+    let mut next = i;
+    let mut j: usize = 0;
+    while j < n {
+        if !difference::whole(octets, next) {
+            return State { biased: 0, next: 0 };
+        }
+        let d = difference::read_difference(octets, next);
+        last = sum(last, d.value);
+        if last < BIASED_LEAST {
+            return State { biased: 0, next: 0 };
+        }
+        if top < last {
+            return State { biased: 0, next: 0 };
+        }
+        next = d.next;
+        j += 1;
+    }
+    State {
+        biased: last,
+        next: next,
+    }
+}
+
+// n pixels, at most 32.
+fn pass_few(octets: &[u8], i: usize, biased: u64, top: u64, n: usize) -> State
+    requires { ⌜ Top top × Between top biased × (i ≤ length (now octets)) × (n ≤ 32) ⌝ }
+    ensures { λ r. ⌜ Passed top (now (octets .entry)) biased i n (r .biased) (r .next) ⌝ }
+{
+    if n < 32 {
+        return pass_each(octets, i, biased, top, n);
+    }
+    if octets.len() - i < 480 {
+        return pass_each(octets, i, biased, top, n);
+    }
+    pass_32(octets, i, biased, top)
+}
+
+// Whether the octets unpack to count pixels.
+pub fn validate(kind: ElementType, octets: &[u8], count: usize) -> bool
+    ensures { λ r. ⌜ r ≡ isSome (unpackByteOffset kind count (now (octets .entry))) ⌝ }
+{
+    let top = biased_greatest(kind);
+    let mut s = State {
+        biased: biased_zero(kind),
+        next: 0,
+    };
+    let mut k: usize = 0;
+    while k < count {
+        let i = s.next;
+        let mut n = plain::plain_run(octets, i, count - k);
+        if n == 0 {
+            n = plain::part(count - k);
+            s = pass_few(octets, i, s.biased, top, n);
+        } else {
+            let biased = pass_run(octets, i, n, s.biased, top);
+            s = State {
+                biased: biased,
+                next: i + n,
+            };
+        }
+        if s.biased == 0 {
+            return false;
+        }
+        k += n;
+    }
+    s.next == octets.len()
+}

@@ -1,0 +1,55 @@
+/* Mooringelm: the pixels of Crystallographic Binary Files, for C and whatever calls C.
+ *
+ * Link with libcbf_capi.a (`rt staticlib cbf_capi` writes it). Every function is proved to answer every input as stated
+ * here, and to touch no other memory than what it is lent.
+ *
+ * What a caller owes, and nothing else: each pointer is valid for as many elements as the length after it says (a length
+ * of 0 goes with any pointer that is not null and is aligned for its type), and what is lent for writing overlaps nothing
+ * else that is lent.
+ *
+ * Each function returns a word. Its upper 32 bits are the refusal number, 0 for none; its lower 32 bits are the place of
+ * a refusal, or the length of the answer. A refusal leaves all lent memory as it was; success leaves what lies beyond the
+ * answer as it was.
+ */
+#ifndef CBF_H
+#define CBF_H
+
+#include <stddef.h>
+#include <stdint.h>
+
+#ifdef __cplusplus
+extern "C" {
+#endif
+
+/* Element types. */
+#define CBF_U8 1
+#define CBF_S8 2
+#define CBF_U16 3
+#define CBF_S16 4
+#define CBF_U32 5
+#define CBF_S32 6
+
+/* Compressions. */
+#define CBF_UNCOMPRESSED 0
+#define CBF_BYTE_OFFSET 1
+
+/* The two halves of a word. */
+#define CBF_REFUSAL(word) ((uint32_t)((word) >> 32))
+#define CBF_VALUE(word) ((uint32_t)(word))
+
+/* Packs pixels by the byte-offset rule. The answer is the number of octets, at least one and at most 15 a pixel.
+ * Refusals, each at 0, in this order: 14 for an unknown element type, more than 67,108,864 pixels, or a pixel outside its
+ * type; 16 for more than 1,073,741,824 octets, which no list of pixels can reach; 15 for too little room. */
+uint64_t cbf_pack(uint8_t element_type, const int64_t *pixels, size_t count, uint8_t *out, size_t room);
+
+/* Unpacks count pixels from all of octets. The answer is count.
+ * Refusals, each at 0, in this order: 13 for an unknown element type or compression, more than 67,108,864 pixels, octets
+ * that run out or remain, or a pixel that leaves its type; 15 for too little room. */
+uint64_t cbf_unpack_octets(uint8_t element_type, uint8_t compression, const uint8_t *octets, size_t octets_len,
+                           size_t count, int64_t *pixels, size_t room);
+
+#ifdef __cplusplus
+}
+#endif
+
+#endif
