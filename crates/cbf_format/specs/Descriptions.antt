@@ -1,0 +1,141 @@
+-- What a section's headers say of it: refusals 6 and 7. Document 01, "A section's headers".
+use mathlib.Core.Option.{Option, none, some, Option·getD}
+use mathlib.Core.Bool.{Bool, true, false, _&&_, cond}
+use mathlib.Core.List.{List, [], _∷_}
+use Prim.Native.Nat.{ℕ, zero, suc, _*_}
+use lib.Dec.{leb, eqb}
+use Rattle.cbf_walk.specs.Parsers.{Res, bad, cut, ok, Parser}
+use Rattle.cbf_pixels.specs.declared.ElementType.{ElementType}
+use Rattle.cbf_pixels.specs.declared.ElementType.the-variants.{U8, S8, U16, S16, U32, S32}
+use Rattle.cbf_pixels.specs.declared.Compression.{Compression}
+use Rattle.cbf_pixels.specs.declared.Compression.the-variants.{Uncompressed, ByteOffset}
+use Rattle.cbf_pixels.specs.Uncompressed.{octetsPer}
+use Rattle.cbf_format.specs.Text.{lowers}
+use Rattle.cbf_format.specs.Headers.{Header, HeaderLines, headerLines, group}
+use Rattle.cbf_format.specs.Values.{oneOf, knownNames, valueOf}
+
+pub data Encoding : Type 0 where
+  binary : Encoding
+  base64 : Encoding
+
+pub record Description : Type 0 where
+  pub encoding : Encoding
+  pub size : ℕ
+  pub elements : ℕ
+  pub compression : Compression
+  pub type : ElementType
+  pub id : Option ℕ
+  pub fastest : Option ℕ
+  pub second : Option ℕ
+  pub third : Option ℕ
+
+-- ---- "6 over the headers in file order": the known headers by number with their values, or the place of the header that is
+-- repeated or has a bad value
+
+pub data Judged : Type 0 where
+  refused-at : ℕ → Judged
+  found : List (ℕ × ℕ) → Judged
+
+abbrev pub look : ℕ → List (ℕ × ℕ) → Option ℕ
+look k [] = none
+look k (f ∷ fs) = let r = look k fs in cond (eqb k (f .0)) (some (f .1)) r
+
+-- the value of header k at a place, where `old` was found before
+abbrev pub put : ℕ → ℕ → Option ℕ → Option ℕ → List (ℕ × ℕ) → Judged
+put at k (some old) v fs = refused-at at
+put at k none none fs = refused-at at
+put at k none (some n) fs = found ((k, n) ∷ fs)
+
+-- "Other headers are passed over"
+abbrev pub judgeHeader : Header → Option ℕ → List (ℕ × ℕ) → Judged
+judgeHeader h none fs = found fs
+judgeHeader h (some k) fs = put (h .at) k (look k fs) (valueOf k (h .value)) fs
+
+abbrev pub onward : (List (ℕ × ℕ) → Judged) → Judged → Judged
+onward go (refused-at p) = refused-at p
+onward go (found fs) = go fs
+
+unfoldable pub judge : List Header → List (ℕ × ℕ) → Judged
+judge [] fs = found fs
+judge (h ∷ hs) fs = onward (λ r. judge hs r) (judgeHeader h (oneOf 0 knownNames (h .name)) fs)
+
+-- ---- 7: "Counts agree when"
+
+abbrev pub sizeAgrees : Compression → ElementType → ℕ → ℕ → Bool
+sizeAgrees Uncompressed t size elements = eqb size (elements * octetsPer t)
+sizeAgrees ByteOffset t size elements = leb elements size && leb size (15 * elements)
+
+-- "Second only with Fastest, Third only with Second; with Fastest given, the product of the given dimensions = elements"
+abbrev pub dimensionsAgree : Option ℕ → Option ℕ → Option ℕ → ℕ → Bool
+dimensionsAgree none none none e = true
+dimensionsAgree none none (some c) e = false
+dimensionsAgree none (some b) c e = false
+dimensionsAgree (some a) none none e = eqb a e
+dimensionsAgree (some a) none (some c) e = false
+dimensionsAgree (some a) (some b) none e = eqb (a * b) e
+dimensionsAgree (some a) (some b) (some c) e = eqb (a * b * c) e
+
+abbrev pub agrees : Description → Bool
+agrees d = sizeAgrees (d .compression) (d .type) (d .size) (d .elements) && dimensionsAgree (d .fastest) (d .second) (d .third) (d .elements)
+
+-- ---- the description, or a refusal and its place after the boundary line
+
+pub data Verdict : Type 0 where
+  refuses : ℕ → ℕ → Verdict
+  describes : Description → Verdict
+
+abbrev pub encodingOf : ℕ → Encoding
+encodingOf zero = binary
+encodingOf (suc k) = base64
+
+abbrev pub compressionOf : ℕ → Compression
+compressionOf zero = Uncompressed
+compressionOf (suc k) = ByteOffset
+
+abbrev pub typeOf : ℕ → ElementType
+typeOf k = cond (leb k 3) (cond (leb k 1) U8 (cond (leb k 2) S8 U16)) (cond (leb k 4) S16 (cond (leb k 5) U32 S32))
+
+-- "Absent: unsigned 32-bit integer"
+abbrev pub description : ℕ → ℕ → ℕ → List (ℕ × ℕ) → Description
+description e n k fs =
+    record {
+      encoding = encodingOf e;
+      size = n;
+      elements = k;
+      compression = compressionOf (Option·getD (look 3 fs) 0);
+      type = typeOf (Option·getD (look 4 fs) 5);
+      id = look 6 fs;
+      fastest = look 7 fs;
+      second = look 8 fs;
+      third = look 9 fs;
+    }
+
+abbrev pub orDisagrees : ℕ → Description → Verdict
+orDisagrees empty d = cond (agrees d) (describes d) (refuses 7 empty)
+
+-- "needed one missing .. the empty line"
+abbrev pub described : ℕ → Option ℕ → Option ℕ → Option ℕ → List (ℕ × ℕ) → Verdict
+described empty (some e) (some n) (some k) fs = orDisagrees empty (description e n k fs)
+described empty none n k fs = refuses 6 empty
+described empty (some e) none k fs = refuses 6 empty
+described empty (some e) (some n) none fs = refuses 6 empty
+
+abbrev pub verdictOf : ℕ → Judged → Verdict
+verdictOf empty (refused-at p) = refuses 6 p
+verdictOf empty (found fs) = described empty (look 0 fs) (look 1 fs) (look 2 fs) fs
+
+unfoldable pub verdict : HeaderLines → Verdict
+verdict hs = verdictOf (hs .empty) (judge (group (hs .lines) .headers) [])
+
+abbrev pub concludedBy : Verdict → ℕ → Res Description
+concludedBy (refuses k p) n = bad k p
+concludedBy (describes d) n = ok d n
+
+abbrev pub concluded : Res HeaderLines → Res Description
+concluded (bad k p) = bad k p
+concluded cut = cut
+concluded (ok hs n) = concludedBy (verdict hs) n
+
+-- the headers and the empty line after them, in at most `most` lines
+unfoldable pub headers : ℕ → ℕ → Parser Description
+headers limit most s = concluded (headerLines limit most true 0 s)

@@ -1,0 +1,9 @@
+pub mod Text
+pub mod Lines
+pub mod Headers
+pub mod Values
+pub mod Descriptions
+pub mod Base64
+pub mod Sections
+pub mod Files
+pub mod Listing

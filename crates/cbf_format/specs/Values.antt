@@ -1,0 +1,131 @@
+-- The values of the known headers, each as a number. Document 01, "A section's headers".
+use mathlib.Core.Option.{Option, none, some}
+use mathlib.Core.Bool.{Bool, true, false, _&&_, cond, not}
+use mathlib.Core.List.{List, [], _∷_}
+use Prim.Native.Nat.{ℕ, zero, suc, _+_, _*_, _-_}
+use lib.Dec.{leb, eqb}
+use lib.ListN.{length}
+use Rattle.cbf_format.specs.Text.{bytes, digit, lowers, same, trim, before, after}
+
+-- "Numbers are 1 to 10 digits"
+abbrev pub digits : List ℕ → Bool
+digits [] = true
+digits (x ∷ t) = digit x && digits t
+
+abbrev pub decimal : ℕ → List ℕ → ℕ
+decimal n [] = n
+decimal n (x ∷ t) = decimal (n * 10 + (x - 48)) t
+
+unfoldable pub number : List ℕ → Option ℕ
+number t = cond ((leb 1 (length t) && leb (length t) 10) && digits t) (some (decimal 0 t)) none
+
+abbrev pub between : ℕ → ℕ → Option ℕ → Option ℕ
+between least most none = none
+between least most (some n) = cond (leb least n && leb n most) (some n) none
+
+-- which of the words, which are in lower case, the text is in any case, counted from k
+abbrev pub oneOf : ℕ → List (List ℕ) → List ℕ → Option ℕ
+oneOf k [] t = none
+oneOf k (w ∷ ws) t = let r = oneOf (suc k) ws t in cond (same w (lowers t)) (some k) r
+
+-- "quoted or not": without one pair of double quotes around it; none where only one is there
+abbrev pub addQuoted : ℕ → Option (List ℕ) → Option (List ℕ)
+addQuoted x none = none
+addQuoted x (some t) = some (x ∷ t)
+
+abbrev pub endQuote : List ℕ → Option (List ℕ)
+endQuote [] = none
+endQuote (x ∷ []) = cond (eqb x 34) (some []) none
+endQuote (x ∷ y ∷ t) = addQuoted x (endQuote (y ∷ t))
+
+abbrev pub unquote : List ℕ → Option (List ℕ)
+unquote [] = some []
+unquote (x ∷ t) = cond (eqb x 34) (endQuote t) (some (x ∷ t))
+
+abbrev pub quotedOneOf : ℕ → List (List ℕ) → Option (List ℕ) → Option ℕ
+quotedOneOf k ws none = none
+quotedOneOf k ws (some t) = oneOf k ws t
+
+-- ---- Content-Type: "split at `;` outside double quotes", none for "an unclosed quote"
+
+abbrev pub addToPart : ℕ → Option (List (List ℕ)) → Option (List (List ℕ))
+addToPart x none = none
+addToPart x (some []) = some ((x ∷ []) ∷ [])
+addToPart x (some (p ∷ ps)) = some ((x ∷ p) ∷ ps)
+
+abbrev pub newPart : Option (List (List ℕ)) → Option (List (List ℕ))
+newPart none = none
+newPart (some ps) = some ([] ∷ ps)
+
+abbrev pub parts : Bool → List ℕ → Option (List (List ℕ))
+parts quoted [] = cond quoted none (some ([] ∷ []))
+parts quoted (x ∷ t) = let r = parts (cond (eqb x 34) (not quoted) quoted) t in cond (eqb x 59 && not quoted) (newPart r) (addToPart x r)
+
+-- "a later part whose text before any `=` is `conversions`, at most one, must have the value `x-CBF_BYTE_OFFSET`"
+pub data Conversion : Type 0 where
+  unseen : Conversion
+  byte-offset : Conversion
+  wrong : Conversion
+
+abbrev pub given : Conversion → Option ℕ → Conversion
+given unseen (some k) = byte-offset
+given unseen none = wrong
+given byte-offset v = wrong
+given wrong v = wrong
+
+abbrev pub withPart : Conversion → List ℕ → Conversion
+withPart c p =
+    cond (same (bytes "conversions") (lowers (trim (before 61 p))))
+    (given c (quotedOneOf 1 (bytes "x-cbf_byte_offset" ∷ []) (unquote (trim (after 61 p)))))
+    c
+
+-- "None means no compression": 0, and 1 for byte offset
+abbrev pub conversions : Conversion → List (List ℕ) → Option ℕ
+conversions unseen [] = some 0
+conversions byte-offset [] = some 1
+conversions wrong [] = none
+conversions c (p ∷ ps) = conversions (withPart c p) ps
+
+-- the first part is free
+abbrev pub contentType : Option (List (List ℕ)) → Option ℕ
+contentType none = none
+contentType (some []) = some 0
+contentType (some (p ∷ ps)) = conversions unseen ps
+
+-- ---- the known headers, in the order listed
+
+abbrev pub knownNames : List (List ℕ)
+knownNames =
+    bytes "content-transfer-encoding"
+    ∷ bytes "x-binary-size"
+    ∷ bytes "x-binary-number-of-elements"
+    ∷ bytes "content-type"
+    ∷ bytes "x-binary-element-type"
+    ∷ bytes "x-binary-element-byte-order"
+    ∷ bytes "x-binary-id"
+    ∷ bytes "x-binary-size-fastest-dimension"
+    ∷ bytes "x-binary-size-second-dimension"
+    ∷ bytes "x-binary-size-third-dimension"
+    ∷ []
+
+-- "unsigned or signed, 8, 16 or 32", numbered as in the catalogue from 1
+abbrev pub typeNames : List (List ℕ)
+typeNames =
+    bytes "unsigned 8-bit integer"
+    ∷ bytes "signed 8-bit integer"
+    ∷ bytes "unsigned 16-bit integer"
+    ∷ bytes "signed 16-bit integer"
+    ∷ bytes "unsigned 32-bit integer"
+    ∷ bytes "signed 32-bit integer"
+    ∷ []
+
+-- the value of the known header k, none where it is bad
+abbrev pub valueOf : ℕ → List ℕ → Option ℕ
+valueOf zero v = oneOf 0 (bytes "binary" ∷ bytes "base64" ∷ []) v
+valueOf (suc zero) v = between 0 1_073_741_824 (number v)
+valueOf (suc (suc zero)) v = between 0 67_108_864 (number v)
+valueOf (suc (suc (suc zero))) v = contentType (parts false v)
+valueOf (suc (suc (suc (suc zero)))) v = quotedOneOf 1 typeNames (unquote v)
+valueOf (suc (suc (suc (suc (suc zero))))) v = quotedOneOf 1 (bytes "little_endian" ∷ []) (unquote v)
+valueOf (suc (suc (suc (suc (suc (suc zero)))))) v = between 1 2_147_483_647 (number v)
+valueOf (suc (suc (suc (suc (suc (suc (suc k))))))) v = between 1 67_108_864 (number v)

@@ -1,0 +1,9 @@
+// The file format: document 01's rules as definitions (specs/), their laws (proofs/), and the types that contracts speak of.
+
+// What a byte of BASE64 text is: a letter with its six-bit number, the pad `=`, a blank, or none of these.
+pub enum Symbol {
+    Letter(u8),
+    Pad,
+    Blank,
+    Other,
+}

@@ -1,0 +1,4 @@
+-- The laws of the definitions in specs/.
+pub mod ParserLaws
+pub mod ReadingLaws
+pub mod EditLaws

@@ -1,0 +1,60 @@
+-- Reading a file step by step, for any step: the items that were read, each with the very bytes that its step took, or a refusal.
+use mathlib.Core.Path.{_≡_}
+use mathlib.Core.Option.{Option, none, some}
+use mathlib.Core.List.{List, [], _∷_, _++_}
+use Prim.Native.Nat.{ℕ, zero, suc, _+_, _-_, _<_}
+use lib.ListN.{length, take, drop}
+use Rattle.cbf_walk.specs.Parsers.{Res, bad, cut, ok, Parser}
+
+-- what one step took, what it says of a section (if it was one), and the state after it
+pub record Item (St Info : Type 0) : Type 0 where
+  pub bytes : List ℕ
+  pub info : Option Info
+  pub next : St
+
+-- refused k p: refusal k at the place p of the file
+pub data Reading (A : Type 0) : Type 0 where
+  refused : ℕ → ℕ → Reading A
+  good : List A → Reading A
+
+-- an item, then what reading on gave
+abbrev pub cons : {A : Type 0} → A → Reading A → Reading A
+cons a (refused k p) = refused k p
+cons a (good l) = good (a ∷ l)
+
+-- the items put together again
+unfoldable pub flat : {St Info : Type 0} → List (Item St Info) → List ℕ
+flat [] = []
+flat (it ∷ its) = it .bytes ++ flat its
+
+-- `ended` is the refusal of a file that ends too early. A state in which the file may not end has something open: `due` says how many bytes back it began.
+module _ {St Info : Type 0} (ended : ℕ) where
+  -- the file ends after a step
+  abbrev pub late : ℕ → Option ℕ → Reading (Item St Info)
+  late off none = good []
+  late off (some d) = refused ended (off - d)
+
+  -- the file ends inside a step: refused where that step began, or where what is open began
+  abbrev pub broke : ℕ → Option ℕ → Reading (Item St Info)
+  broke off none = refused ended off
+  broke off (some d) = refused ended (off - d)
+
+  -- the step from the place `off`, on the bytes s, gave r: `go` reads on
+  abbrev pub turn : ℕ → Option ℕ → List ℕ → Res (Option Info × St) → (ℕ → St → List ℕ → Reading (Item St Info)) → Reading (Item St Info)
+  turn off d s (bad k p) go = refused k (off + p)
+  turn off d s cut go = broke off d
+  turn off d s (ok o n) go = cons (record { bytes = take n s; info = o .0; next = o .1 }) (go (off + n) (o .1) (drop n s))
+
+  -- read the bytes from the place `off` on, in a state. The first number bounds the steps. With as many steps as bytes the second line is never
+  -- the answer, where each step moves: more steps then change nothing (`fuel` in the laws).
+  unfoldable pub readF : (St → Parser (Option Info × St)) → (St → Option ℕ) → ℕ → ℕ → St → List ℕ → Reading (Item St Info)
+  readF step due zero off st [] = late off (due st)
+  readF step due zero off st (x ∷ xs) = refused ended 0
+  readF step due (suc f) off st [] = late off (due st)
+  readF step due (suc f) off st (x ∷ xs) = turn off (due st) (x ∷ xs) (step st (x ∷ xs)) (λ o t s. readF step due f o t s)
+
+-- the items are what stepping from a state gives
+unfoldable pub Good : {St Info : Type 0} → (St → Parser (Option Info × St)) → (St → Option ℕ) → St → List (Item St Info) → Type 0
+Good step due st [] = due st ≡ none
+Good step due st (it ∷ its) =
+    (step st (it .bytes ++ flat its) ≡ ok (it .info, it .next) (length (it .bytes))) × (0 < length (it .bytes)) × Good step due (it .next) its
