@@ -1,1 +1,6 @@
+-- The laws of the definitions in specs/.
+pub mod LineTame
+pub mod SectionTame
+pub mod SectionLaws
+pub mod FileLaws
 pub mod Examples

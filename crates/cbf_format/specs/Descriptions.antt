@@ -10,13 +10,10 @@ use Rattle.cbf_pixels.specs.declared.ElementType.the-variants.{U8, S8, U16, S16
 use Rattle.cbf_pixels.specs.declared.Compression.{Compression}
 use Rattle.cbf_pixels.specs.declared.Compression.the-variants.{Uncompressed, ByteOffset}
 use Rattle.cbf_pixels.specs.Uncompressed.{octetsPer}
-use Rattle.cbf_format.specs.Text.{lowers}
+use Rattle.cbf_format.specs.declared.Encoding.{Encoding}
+use Rattle.cbf_format.specs.declared.Encoding.the-variants.{Binary, Base64}
 use Rattle.cbf_format.specs.Headers.{Header, HeaderLines, headerLines, group}
 use Rattle.cbf_format.specs.Values.{oneOf, knownNames, valueOf}
-
-pub data Encoding : Type 0 where
-  binary : Encoding
-  base64 : Encoding
 
 pub record Description : Type 0 where
   pub encoding : Encoding
@@ -85,8 +82,8 @@ pub data Verdict : Type 0 where
   describes : Description → Verdict
 
 abbrev pub encodingOf : ℕ → Encoding
-encodingOf zero = binary
-encodingOf (suc k) = base64
+encodingOf zero = Binary
+encodingOf (suc k) = Base64
 
 abbrev pub compressionOf : ℕ → Compression
 compressionOf zero = Uncompressed

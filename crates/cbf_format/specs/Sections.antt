@@ -5,9 +5,11 @@ use mathlib.Core.List.{List, [], _∷_}
 use Prim.Native.Nat.{ℕ, _+_}
 use lib.ListN.{length, drop}
 use Rattle.cbf_walk.specs.Parsers.{Res, bad, cut, ok, Parser, ret, plus, bind, counted, screen, blame}
+use Rattle.cbf_format.specs.declared.Encoding.{Encoding}
+use Rattle.cbf_format.specs.declared.Encoding.the-variants.{Binary, Base64}
 use Rattle.cbf_format.specs.Text.{bytes}
 use Rattle.cbf_format.specs.Lines.{line, lineEnd, octets, word, semicolonLine}
-use Rattle.cbf_format.specs.Descriptions.{Description, Encoding, binary, base64, headers}
+use Rattle.cbf_format.specs.Descriptions.{Description, headers}
 use Rattle.cbf_format.specs.Base64.{Letters, letters, decode, sized}
 
 abbrev pub opening : List ℕ
@@ -81,8 +83,8 @@ unfoldable pub base64Data : ℕ → ℕ → Parser Data
 base64Data limit size s = textClosed limit (screen (goodText size) (letters limit closing fileLimit 0 s)) s
 
 abbrev pub dataFor : ℕ → Encoding → ℕ → Parser Data
-dataFor limit binary size = binaryData limit size
-dataFor limit base64 size = base64Data limit size
+dataFor limit Binary size = binaryData limit size
+dataFor limit Base64 size = base64Data limit size
 
 -- ---- the section
 

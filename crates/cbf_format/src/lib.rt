@@ -7,3 +7,9 @@ pub enum Symbol {
     Blank,
     Other,
 }
+
+// "Content-Transfer-Encoding, needed: BINARY or BASE64."
+pub enum Encoding {
+    Binary,
+    Base64,
+}
