@@ -2,7 +2,7 @@
 use mathlib.Core.Option.{Option, none, some}
 use mathlib.Core.Bool.{Bool, true, false, _&&_, cond}
 use mathlib.Core.List.{List, [], _∷_}
-use Prim.Native.Nat.{ℕ, suc, _+_, _-_}
+use Prim.Native.Nat.{ℕ, suc, _+_}
 use lib.Dec.{leb, ltb, eqb}
 use lib.ListN.{length, take, drop}
 use Rattle.cbf_walk.specs.Parsers.{Res, bad, cut, ok, Parser, hd, bind, counted, screen}
@@ -56,7 +56,7 @@ word w s = screen (λ t. cond (same t w) none (some (9, 0))) (octets (length w) 
 -- "`;` with at most 79 blanks", where a line has at most 80 characters
 abbrev pub semicolon : ℕ → List ℕ → Option (ℕ × ℕ)
 semicolon limit [] = some (9, 0)
-semicolon limit (x ∷ t) = cond (eqb x 59 && (blanks t && leb (length t) (limit - 1))) none (some (9, 0))
+semicolon limit (x ∷ t) = cond (eqb x 59 && (blanks t && ltb (length t) limit)) none (some (9, 0))
 
 unfoldable pub semicolonLine : ℕ → Parser (List ℕ)
 semicolonLine limit s = screen (semicolon limit) (line s)

@@ -1,0 +1,88 @@
+use mathlib.Core.Path.{refl, sym, _∙_}
+use Prim.Native.Nat.{_-_, _≤_}
+use native.Mathlib.Omega.{arith}
+use lib.ListN.{length}
+use lib.Seq.{slice, length-slice}
+use denote.Ref.{now}
+use Rattle.cbf_reader.proofs.Texts.{getD-slice, Agree, same-lengths, agree-next, agree-not, agree-end}
+use Rattle.cbf_reader.proofs.text.is_word.Statement.{statement}
+use Rattle.cbf_reader.proofs.text.is_word.Tie as tie
+
+abbrev Inv-loop : tie.InvT-loop
+Inv-loop file from to word i₀ i = (i ≤ length word) × Agree (slice from to file) word i
+
+abbrev μ-loop : tie.MeasureT-loop
+μ-loop file from to word i₀ i = length word - i
+
+sub-if1 : tie.Need-sub-if1 Inv-loop μ-loop
+sub-if1 c = omega arith
+
+returns : tie.Need-returns Inv-loop μ-loop
+returns c =
+    let a = c .before .args in
+    let s = slice (a .from) (a .to) (now (a .file)) in
+    let l = length-slice (a .from) (a .to) (now (a .file)) (c .before .pre .1) in
+    sym (same-lengths s (now (a .word)) (λ e. c .if1 .taken (sym l ∙ e)))
+
+loop-holds : tie.Need-loop-holds Inv-loop μ-loop
+loop-holds c = (omega arith, refl)
+
+add-if2 : tie.Need-add-if2 Inv-loop μ-loop
+add-if2 c = omega arith
+
+shared-slice-read-if2 : tie.Need-shared-slice-read-if2 Inv-loop μ-loop
+shared-slice-read-if2 c = omega arith
+
+shared-slice-read-if2-2 : tie.Need-shared-slice-read-if2-2 Inv-loop μ-loop
+shared-slice-read-if2-2 c = omega arith
+
+returns-2 : tie.Need-returns-2 Inv-loop μ-loop
+returns-2 c =
+    let a = c .before .before .before .before .before .before .args in
+    let s = slice (a .from) (a .to) (now (a .file)) in
+    let l = length-slice (a .from) (a .to) (now (a .file)) (c .before .before .before .before .before .before .pre .1) in
+    let i = c .before .before .before .before .loop .i in
+    let v = c .before .before .before .before .loop .inv .1 in
+    sym (agree-not s (now (a .word)) i v (omega arith) (omega arith) (λ e. c .if2 .taken (sym (getD-slice (a .from) (a .to) (now (a .file)) i (omega arith)) ∙ e)))
+
+add-i : tie.Need-add-i Inv-loop μ-loop
+add-i c = omega arith
+
+loop-less : tie.Need-loop-less Inv-loop μ-loop
+loop-less c = omega arith
+
+loop-again : tie.Need-loop-again Inv-loop μ-loop
+loop-again c =
+    let a = c .before .before .before .before .before .before .args in
+    let s = slice (a .from) (a .to) (now (a .file)) in
+    let l = length-slice (a .from) (a .to) (now (a .file)) (c .before .before .before .before .before .before .pre .1) in
+    let i = c .before .before .before .before .loop .i in
+    let v = c .before .before .before .before .loop .inv .1 in
+    (omega arith, agree-next s (now (a .word)) i v (omega arith) (omega arith) (getD-slice (a .from) (a .to) (now (a .file)) i (omega arith) ∙ c .if2 .left))
+
+returns-3 : tie.Need-returns-3 Inv-loop μ-loop
+returns-3 c =
+    let a = c .before .before .before .args in
+    let s = slice (a .from) (a .to) (now (a .file)) in
+    let l = length-slice (a .from) (a .to) (now (a .file)) (c .before .before .before .pre .1) in
+    let i = c .before .loop .i in
+    let v = c .before .loop .inv .1 in
+    sym (agree-end s (now (a .word)) i v (omega arith) (omega arith))
+
+pub is-word-spec : {M : Type 1} → statement M
+is-word-spec =
+    tie.close
+    (tie.spec
+    Inv-loop
+    μ-loop
+    sub-if1
+    returns
+    loop-holds
+    add-if2
+    shared-slice-read-if2
+    shared-slice-read-if2-2
+    returns-2
+    add-i
+    loop-less
+    loop-again
+    returns-3)

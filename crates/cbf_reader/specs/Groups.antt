@@ -1,0 +1,38 @@
+-- BASE64 text as the code checks it. Document 01: "groups of four, `=` only as one or two at the very end, unused bits zero",
+-- "octet count as declared".
+use mathlib.Core.Bool.{Bool, true, false, not, _&&_, cond}
+use mathlib.Core.List.{List, [], _∷_}
+use Prim.Native.Nat.{ℕ, _+_, _*_, _/_, _%_}
+use lib.Dec.{eqb}
+use Rattle.cbf_format.specs.declared.Symbol.{Symbol}
+use Rattle.cbf_format.specs.declared.Symbol.the-variants.{Letter, Pad, Blank, Other}
+use Rattle.cbf_format.specs.Base64.{symbol}
+use Rattle.cbf_reader.specs.declared.base64.Groups.{Groups}
+
+-- one symbol more
+abbrev pub addSymbolTo : Groups → Symbol → Groups
+addSymbolTo g (Letter n) = record { letters = g .letters + 1; pads = g .pads; last = n; broken = cond (eqb (g .pads) 0) (g .broken) true }
+addSymbolTo g Pad = record { letters = g .letters; pads = g .pads + 1; last = g .last; broken = g .broken }
+addSymbolTo g Blank = g
+addSymbolTo g Other = g
+
+unfoldable pub groupsFrom : Groups → List Symbol → Groups
+groupsFrom g [] = g
+groupsFrom g (s ∷ l) = groupsFrom (addSymbolTo g s) l
+
+unfoldable pub groupsOf : List Symbol → Groups
+groupsOf l = groupsFrom (record { letters = 0; pads = 0; last = 0; broken = false }) l
+
+-- the symbols of a text's bytes
+unfoldable pub bytesFrom : Groups → List ℕ → Groups
+bytesFrom g [] = g
+bytesFrom g (x ∷ t) = bytesFrom (addSymbolTo g (symbol x)) t
+
+-- the bits of the last letter that no octet takes
+unfoldable pub unusedZero : ℕ → ℕ → Bool
+unusedZero pads last = cond (eqb pads 0) true (cond (eqb pads 1) (eqb (last % 4) 0) (cond (eqb pads 2) (eqb (last % 16) 0) false))
+
+-- the text so far is whole, and stands for this many octets
+unfoldable pub groupsHold : Groups → ℕ → Bool
+groupsHold g size =
+    not (g .broken) && (eqb ((g .letters + g .pads) % 4) 0 && (eqb (g .letters * 3 / 4) size && unusedZero (g .pads) (g .last)))

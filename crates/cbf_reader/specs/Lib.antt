@@ -1,0 +1,5 @@
+-- What the contracts of the functions say: the definitions of cbf_format at places of the file.
+pub mod Places
+pub mod Values
+pub mod Groups
+pub mod Found

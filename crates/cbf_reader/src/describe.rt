@@ -1,0 +1,191 @@
+// What a section's headers say of it, from the values that were found: refusal 6 for a header that is missing, and 7.
+use cbf_format::Encoding;
+use cbf_pixels::Compression;
+use cbf_pixels::ElementType;
+ghost use mathlib.Core.Path.{_≡_};
+ghost use mathlib.Core.List.{List};
+ghost use mathlib.Core.Option.{some};
+ghost use Prim.Native.Nat.{ℕ, _-_, _≤_, _^_};
+ghost use Rattle.cbf_pixels.specs.Uncompressed.{octetsPer};
+ghost use Rattle.cbf_format.specs.Descriptions.{look, sizeAgrees, dimensionsAgree, described, encodingOf, compressionOf, typeOf};
+ghost use Rattle.cbf_reader.specs.Found.{foundOf, optional, describedBy, InRange};
+
+// What a section's headers say. An ID or a dimension that is absent is 0.
+pub struct Description {
+    pub encoding: Encoding,
+    pub size: u64,
+    pub elements: u64,
+    pub compression: Compression,
+    pub kind: ElementType,
+    pub id: u64,
+    pub fastest: u64,
+    pub second: u64,
+    pub third: u64,
+}
+
+pub enum Described {
+    Missing,
+    Disagree,
+    As(Description),
+}
+
+fn octets_per(kind: ElementType) -> u64
+    ensures { λ r. ⌜ (r ≡ octetsPer kind) × (r ≤ 4) ⌝ }
+{
+    match kind {
+        ElementType::U8 => 1,
+        ElementType::S8 => 1,
+        ElementType::U16 => 2,
+        ElementType::S16 => 2,
+        ElementType::U32 => 4,
+        ElementType::S32 => 4,
+    }
+}
+
+// Whether size and elements agree.
+fn size_agrees(compression: Compression, kind: ElementType, size: u64, elements: u64) -> bool
+    requires { ⌜ (size ≤ 2 ^ 32) × (elements ≤ 2 ^ 32) ⌝ }
+    ensures { λ r. ⌜ r ≡ sizeAgrees compression kind size elements ⌝ }
+{
+    match compression {
+        Compression::Uncompressed => size == elements * octets_per(kind),
+        Compression::ByteOffset => {
+            if size < elements {
+                return false;
+            }
+            size <= 15 * elements
+        }
+    }
+}
+
+// Whether the dimensions and elements agree; 0 stands for one that is absent.
+fn dimensions_agree(fastest: u64, second: u64, third: u64, elements: u64) -> bool
+    requires { ⌜ (fastest ≤ 2 ^ 31) × (second ≤ 2 ^ 31) × (third ≤ 2 ^ 31) × (elements ≤ 2 ^ 31) ⌝ }
+    ensures { λ r. ⌜ r ≡ dimensionsAgree (optional fastest) (optional second) (optional third) elements ⌝ }
+{
+    if fastest == 0 {
+        if second != 0 {
+            return false;
+        }
+        return third == 0;
+    }
+    if second == 0 {
+        if third != 0 {
+            return false;
+        }
+        return fastest == elements;
+    }
+    let area = fastest * second;
+    if third == 0 {
+        return area == elements;
+    }
+    if elements < area {
+        return false;
+    }
+    area * third == elements
+}
+
+// The encoding of a number, 0 for BINARY.
+fn encoding_of(number: u64) -> Encoding
+    ensures { λ r. ⌜ r ≡ encodingOf number ⌝ }
+{
+    if number == 0 {
+        return Encoding::Binary;
+    }
+    Encoding::Base64
+}
+
+// The compression of a number, 0 for none.
+fn compression(number: u64) -> Compression
+    ensures { λ r. ⌜ r ≡ compressionOf number ⌝ }
+{
+    if number == 0 {
+        return Compression::Uncompressed;
+    }
+    Compression::ByteOffset
+}
+
+// The element type of a number.
+fn element_type(number: u64) -> ElementType
+    ensures { λ r. ⌜ r ≡ typeOf number ⌝ }
+{
+    if number <= 1 {
+        return ElementType::U8;
+    }
+    match number {
+        2 => ElementType::S8,
+        3 => ElementType::U16,
+        4 => ElementType::S16,
+        5 => ElementType::U32,
+        _ => ElementType::S32,
+    }
+}
+
+// One less, where there is one.
+fn given(held: u64) -> u64
+    ensures { λ r. ⌜ r ≡ held - 1 ⌝ }
+{
+    if held == 0 {
+        return 0;
+    }
+    held - 1
+}
+
+// What the values say, with the encoding, the size and the elements among them.
+fn description_of(values: [u64; 10], encoding: u64, size: u64, elements: u64) -> Described
+    requires { ⌜ InRange values × (size ≤ 2 ^ 31) × (elements ≤ 2 ^ 31) ⌝ }
+    ensures { λ r. ⌜ ((fs : List (ℕ × ℕ)) → values ≡ foundOf fs → r ≡ describedBy (described 0 (some encoding) (some size) (some elements) fs)) ⌝ }
+{
+    let mut kind_number = 5;
+    if values[4] != 0 {
+        kind_number = values[4] - 1;
+    }
+    let by = compression(given(values[3]));
+    let kind = element_type(kind_number);
+    let fastest = given(values[7]);
+    let second = given(values[8]);
+    let third = given(values[9]);
+    if !size_agrees(by, kind, size, elements) {
+        return Described::Disagree;
+    }
+    if !dimensions_agree(fastest, second, third, elements) {
+        return Described::Disagree;
+    }
+    let transfer = encoding_of(encoding);
+    Described::As(Description {
+        encoding: transfer,
+        size: size,
+        elements: elements,
+        compression: by,
+        kind: kind,
+        id: given(values[6]),
+        fastest: fastest,
+        second: second,
+        third: third,
+    })
+}
+
+// What the values say. Each is one more than the value of its header, or 0 where there is none.
+pub fn describe(values: [u64; 10]) -> Described
+    requires { ⌜ InRange values ⌝ }
+    ensures { λ r. ⌜ ((fs : List (ℕ × ℕ)) → values ≡ foundOf fs → r ≡ describedBy (described 0 (look 0 fs) (look 1 fs) (look 2 fs) fs)) ⌝ }
+{
+    let needed_encoding = values[0];
+    if needed_encoding == 0 {
+        return Described::Missing;
+    }
+    let needed_size = values[1];
+    if needed_size == 0 {
+        return Described::Missing;
+    }
+    let needed_elements = values[2];
+    if needed_elements == 0 {
+        return Described::Missing;
+    }
+    description_of(
+        values,
+        needed_encoding - 1,
+        needed_size - 1,
+        needed_elements - 1,
+    )
+}
