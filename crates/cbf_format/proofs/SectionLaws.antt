@@ -63,7 +63,7 @@ pub record DataSays (limit : ℕ) (s : List ℕ) (d : Data) (n : ℕ) : Type 0 w
   pub lead : d .lead ≤ d .width
   pub closes : Closes limit s (d .width) n
 
-word-count : (w s t : List ℕ) (n : ℕ) → word w s ≡ ok t n → n ≡ length w
+pub word-count : (w s t : List ℕ) (n : ℕ) → word w s ≡ ok t n → n ≡ length w
 unfolding word
 word-count w s t n e = unoctets (length w) s t n (unscreen (λ t. cond (same t w) none (some (9, 0))) (octets (length w) s) t n e .0) .2
 
@@ -129,18 +129,18 @@ line-rest (x ∷ xs) t n e = go (eqb x 10) (eqb x 13) e (λ t n e. line-rest xs 
         more (u .0) (u .1) (u .3) (u .4) (ih (u .0) (u .1) (u .2))
 
 -- where the letters end: the closing line is the last
-record Ends (boundary s : List ℕ) (at : ℕ) (l : Letters) (n : ℕ) : Type 0 where
-  before : ℕ
-  last : ℕ
-  place : at + before ≡ l .closing
-  sum : before + last ≡ n
-  is-line : line (drop before s) ≡ ok boundary last
+pub record Ends (boundary s : List ℕ) (at : ℕ) (l : Letters) (n : ℕ) : Type 0 where
+  pub before : ℕ
+  pub last : ℕ
+  pub place : at + before ≡ l .closing
+  pub sum : before + last ≡ n
+  pub is-line : line (drop before s) ≡ ok boundary last
 
 unonward : {A : Type 0} (p : Parser A) (s : List ℕ) (a : A) (n : ℕ) → onward p s ≡ ok a n → p s ≡ ok a n
 unonward p [] a n e = absurd (cut≢ok e)
 unonward p (x ∷ s) a n e = e
 
-letters-end : (limit : ℕ) (boundary : List ℕ) (f at : ℕ) (s : List ℕ) (l : Letters) (n : ℕ) → letters limit boundary f at s ≡ ok l n → Ends boundary s at l n
+pub letters-end : (limit : ℕ) (boundary : List ℕ) (f at : ℕ) (s : List ℕ) (l : Letters) (n : ℕ) → letters limit boundary f at s ≡ ok l n → Ends boundary s at l n
 unfolding letters
 letters-end limit boundary zero at s l n e = absurd (cut≢ok e)
 letters-end limit boundary (suc f) at s l n e = go (unbind read more s l n e) (λ at s l n e. letters-end limit boundary f at s l n e)

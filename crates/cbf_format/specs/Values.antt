@@ -5,6 +5,8 @@ use mathlib.Core.List.{List, [], _∷_}
 use Prim.Native.Nat.{ℕ, zero, suc, _+_, _*_, _-_}
 use lib.Dec.{leb, eqb}
 use lib.ListN.{length}
+use Rattle.cbf_format.specs.declared.Conversion.{Conversion}
+use Rattle.cbf_format.specs.declared.Conversion.the-variants.{Unseen, Seen, Wrong}
 use Rattle.cbf_format.specs.Text.{bytes, digit, lowers, same, trim, before, after}
 
 -- "Numbers are 1 to 10 digits"
@@ -62,16 +64,11 @@ parts quoted [] = cond quoted none (some ([] ∷ []))
 parts quoted (x ∷ t) = let r = parts (cond (eqb x 34) (not quoted) quoted) t in cond (eqb x 59 && not quoted) (newPart r) (addToPart x r)
 
 -- "a later part whose text before any `=` is `conversions`, at most one, must have the value `x-CBF_BYTE_OFFSET`"
-pub data Conversion : Type 0 where
-  unseen : Conversion
-  byte-offset : Conversion
-  wrong : Conversion
-
 abbrev pub given : Conversion → Option ℕ → Conversion
-given unseen (some k) = byte-offset
-given unseen none = wrong
-given byte-offset v = wrong
-given wrong v = wrong
+given Unseen (some k) = Seen
+given Unseen none = Wrong
+given Seen v = Wrong
+given Wrong v = Wrong
 
 abbrev pub withPart : Conversion → List ℕ → Conversion
 withPart c p =
@@ -81,16 +78,16 @@ withPart c p =
 
 -- "None means no compression": 0, and 1 for byte offset
 abbrev pub conversions : Conversion → List (List ℕ) → Option ℕ
-conversions unseen [] = some 0
-conversions byte-offset [] = some 1
-conversions wrong [] = none
+conversions Unseen [] = some 0
+conversions Seen [] = some 1
+conversions Wrong [] = none
 conversions c (p ∷ ps) = conversions (withPart c p) ps
 
 -- the first part is free
 abbrev pub contentType : Option (List (List ℕ)) → Option ℕ
 contentType none = none
 contentType (some []) = some 0
-contentType (some (p ∷ ps)) = conversions unseen ps
+contentType (some (p ∷ ps)) = conversions Unseen ps
 
 -- ---- the known headers, in the order listed
 

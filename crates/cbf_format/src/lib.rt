@@ -13,3 +13,10 @@ pub enum Encoding {
     Binary,
     Base64,
 }
+
+// What the parts of Content-Type have said so far of conversions: nothing, byte offset, or what is no value of it.
+pub enum Conversion {
+    Unseen,
+    Seen,
+    Wrong,
+}

@@ -2,29 +2,30 @@
 use mathlib.Core.Path.{_≡_, refl, sym, ap, _∙_, subst}
 use mathlib.Core.Logic.{_⊎_, inl, inr, ⊎-elim}
 use mathlib.Core.Option.{none, some}
-use mathlib.Core.Bool.{Bool, true, false, _&&_, cond, and-false}
+use mathlib.Core.Bool.{Bool, true, false, _&&_, _||_, cond, and-false}
 use mathlib.Core.List.{List, [], _∷_, _++_}
 use Prim.Native.Nat.{ℕ, suc, _+_, _-_, _≤_, _<_}
 use native.Mathlib.Omega.{arith}
 use native.Mathlib.Numerals.{add-one}
-use borrow.Author.Tests.{le-leb, lt-leb, lt-ltb, le-ltb, ne-eqb, eqb-true, eqb-false}
-use lib.Dec.{eqb}
+use borrow.Author.Tests.{le-leb, lt-leb, lt-ltb, le-ltb, ltb-true, ltb-false, ne-eqb, eqb-true, eqb-false}
+use lib.Dec.{leb, ltb, eqb}
 use lib.ListN.{length, take, drop, getD, length-append, length-drop, take-append-drop, drop-of-length-le}
 use lib.Seq.{slice, length-take-le, drop-append-le, drop-cons, drop-drop, drop-at, take-add, getD-drop, getD-take, length-slice}
 use Rattle.cbf_walk.specs.Parsers.{Res, bad, cut, ok, Parser, hd, plus, then, bind, counted, screen, ret}
-use Rattle.cbf_format.specs.Text.{blank, blanks, same}
+use Rattle.cbf_format.specs.Text.{blank, blanks, textual, same}
 use Rattle.cbf_format.specs.Lines.{endLength, addByte, line, onlyEnd, lineEnd, octets, word, semicolon, semicolonLine}
 use Rattle.cbf_format.specs.Sections.{closing, lastBoundary, afterSpan, closed}
 use Rattle.cbf_reader.specs.declared.closing.Next.{Next}
 use Rattle.cbf_reader.specs.declared.closing.Next.the-variants.{Missing, At}
 use Rattle.cbf_reader.specs.declared.closing.Ending.{Ending}
 use Rattle.cbf_reader.specs.declared.closing.Ending.the-variants.{Wrong, Span}
-use Rattle.cbf_reader.specs.Places.{Run, nextAt, closedAt}
+use Rattle.cbf_reader.specs.Places.{Run, nextAt, endedAt, closedAt}
+use Rattle.cbf_reader.proofs.LineLaws.{line-good, textual-inside}
 
-no-place : {i : ℕ} → At i ≡ Missing → ⊥
+pub no-place : {i : ℕ} → At i ≡ Missing → ⊥
 no-place e = let z : _≡_ {A = ℕ} 0 1 = cc in omega arith
 
-same-place : {i j : ℕ} → At i ≡ At j → i ≡ j
+pub same-place : {i j : ℕ} → At i ≡ At j → i ≡ j
 same-place e = cc
 
 -- ---- a line end
@@ -121,10 +122,78 @@ module _ (file : List ℕ) (at : ℕ) where
           not : line (x ∷ xs) ≡ addByte x (line xs) → i ≤ length file
           not e = absurd (no-place (q ∙ sym (line-end-not at (x ∷ xs) x (line xs) e)))
 
+-- a line's end, with the file or with a line end
+module _ (file : List ℕ) (at : ℕ) where
+  pub ended-file : length file ≤ at → At at ≡ endedAt at (drop at file)
+  ended-file h = sym (ap (endedAt at) (drop-of-length-le file {i = at} h))
+
+  pub ended-line : at < length file → nextAt at (lineEnd (drop at file)) ≡ endedAt at (drop at file)
+  ended-line h = sym (ap (endedAt at) (sym (here file at h)) ∙ ap (λ (s : List ℕ). nextAt at (lineEnd s)) (here file at h))
+
+-- what the answer says of the line from there on
+pub record EndsAt (file : List ℕ) (at next : ℕ) : Type 0 where
+  pub taken : ℕ
+  pub place : next ≡ at + taken
+  pub empty : line (drop at file) ≡ ok [] taken
+  pub inside : next ≤ length file
+
+pub record GoesOn (file : List ℕ) (at : ℕ) : Type 0 where
+  pub byte : at < length file
+  pub more : List ℕ
+  pub taken : ℕ
+  pub reads : line (drop at file) ≡ ok (getD file at 0 ∷ more) taken
+
+module _ (file : List ℕ) (at : ℕ) (inside : at ≤ length file) where
+  -- a line end, or a byte of the line's text
+  abbrev EndOrByte : Next → Type 0
+  EndOrByte r = ((n : ℕ) × Ends (drop at file) n × (r ≡ At (at + n))) ⊎ ((line (drop at file) ≡ addByte (getD file at 0) (line (drop (at + 1) file))) × (r ≡ Missing))
+
+  module _ (h : at < length file) where
+    by-first : (r : Next) → r ≡ endedAt at (drop at file) → EndOrByte r
+    by-first r q = ⊎-elim there not (first-byte (getD file at 0) (drop (at + 1) file))
+      where
+        e : r ≡ nextAt at (lineEnd (drop at file))
+        e = q ∙ sym (ended-line file at h)
+
+        there : ((n : ℕ) × Ends (getD file at 0 ∷ drop (at + 1) file) n) → EndOrByte r
+        there v =
+            let w : Ends (drop at file) (v .0) = subst (λ (s : List ℕ). Ends s (v .0)) (here file at h) (v .1) in
+            inl (v .0, w, e ∙ sym (line-end-there at (drop at file) w))
+
+        not : line (getD file at 0 ∷ drop (at + 1) file) ≡ addByte (getD file at 0) (line (drop (at + 1) file))
+            → EndOrByte r
+        not v =
+            let w : line (drop at file) ≡ addByte (getD file at 0) (line (drop (at + 1) file)) = ap line (sym (here file at h)) ∙ v in
+            inr (w, e ∙ sym (line-end-not at (drop at file) (getD file at 0) (line (drop (at + 1) file)) w))
+
+  pub ended-at : {next : ℕ} → At next ≡ endedAt at (drop at file) → EndsAt file at next
+  ended-at {next} q = go (ltb at (length file)) refl
+    where
+      go : (t : Bool) → ltb at (length file) ≡ t → EndsAt file at next
+      go true p =
+          let h = ltb-true at (length file) p in
+          ⊎-elim
+          (λ v. let z : next ≡ at + v .0 = same-place (v .2) in let k = v .1 .inside in record { taken = v .0; place = z; empty = v .1 .empty; inside = omega (arith, length-drop at file) })
+          (λ v. absurd (no-place (v .1))) (by-first h (At next) q)
+      go false p =
+          let h : length file ≤ at = ltb-false at (length file) p in
+          let z : next ≡ at = same-place (q ∙ sym (ended-file file at h)) in
+          record { taken = 0; place = omega arith; empty = ap line (drop-of-length-le file {i = at} h); inside = omega arith }
+
+  pub ended-not : Missing ≡ endedAt at (drop at file) → GoesOn file at
+  ended-not q = go (ltb at (length file)) refl
+    where
+      go : (t : Bool) → ltb at (length file) ≡ t → GoesOn file at
+      go true p =
+          let h = ltb-true at (length file) p in
+          let g = line-good (drop (at + 1) file) in
+          ⊎-elim (λ v. absurd (no-place (sym (v .2)))) (λ v. record { byte = h; more = g .0; taken = suc (g .1); reads = v .0 ∙ ap (addByte (getD file at 0)) (g .2 .reads) }) (by-first h Missing q)
+      go false p = absurd (no-place (ended-file file at (ltb-false at (length file) p) ∙ sym q))
+
 -- ---- the line of `;` and blanks
 
 -- a line with a text before it
-abbrev ahead : List ℕ → Res (List ℕ) → Res (List ℕ)
+abbrev pub ahead : List ℕ → Res (List ℕ) → Res (List ℕ)
 ahead t (bad k p) = bad k p
 ahead t cut = cut
 ahead t (ok u n) = ok (t ++ u) (length t + n)
@@ -139,19 +208,33 @@ ahead-one x t (bad k p) = refl
 ahead-one x t cut = refl
 ahead-one x t (ok u n) = let z : suc (length t + n) ≡ suc (length t) + n = omega arith in ap (ok (x ∷ (t ++ u))) z
 
--- a blank ends no line
-blank-not : (x y : ℕ) → blank x ≡ true → blank y ≡ false → x ≡ y → ⊥
-blank-not x y p q e = let z : true ≡ false = sym p ∙ ap blank e ∙ q in absurd (let w : _≡_ {A = ℕ} 0 1 = cc in omega arith)
-
-and-both : (s t : Bool) → (s && t) ≡ true → (s ≡ true) × (t ≡ true)
+pub and-both : (s t : Bool) → (s && t) ≡ true → (s ≡ true) × (t ≡ true)
 and-both true t e = (refl, e)
 and-both false t e = absurd (let w : _≡_ {A = ℕ} 0 1 = cc in omega arith)
 
-line-ahead : (bs s : List ℕ) → blanks bs ≡ true → line (bs ++ s) ≡ ahead bs (line s)
+-- bytes of text
+abbrev pub texts : List ℕ → Bool
+texts [] = true
+texts (x ∷ t) = textual x && texts t
+
+pub line-ahead : (bs s : List ℕ) → texts bs ≡ true → line (bs ++ s) ≡ ahead bs (line s)
 line-ahead [] s e = ahead-none (line s)
 line-ahead (x ∷ bs) s e =
-    let b = and-both (blank x) (blanks bs) e in
-    goes-on x (bs ++ s) (blank-not x 10 (b .0) refl) (blank-not x 13 (b .0) refl) ∙ ap (addByte x) (line-ahead bs s (b .1)) ∙ ahead-one x bs (line s)
+    let b = and-both (textual x) (texts bs) e in
+    let w = textual-inside x (b .0) in
+    rw (w .0, w .1) (ap (addByte x) (line-ahead bs s (b .1)) ∙ ahead-one x bs (line s))
+
+pub blank-textual : (x : ℕ) → blank x ≡ true → textual x ≡ true
+blank-textual x e = go (eqb x 9) (eqb x 32) refl e
+  where
+    go : (p q : Bool) → eqb x 32 ≡ q → (p || q) ≡ true → (p || (leb 32 x && leb x 126)) ≡ true
+    go true q h e = refl
+    go false true h e = let z : x ≡ 32 = eqb-true x 32 h in rw (le-leb 32 x (omega arith), le-leb x 126 (omega arith))
+    go false false h e = absurd (let w : _≡_ {A = ℕ} 0 1 = cc in omega arith)
+
+blanks-texts : (bs : List ℕ) → blanks bs ≡ true → texts bs ≡ true
+blanks-texts [] e = refl
+blanks-texts (x ∷ bs) e = let b = and-both (blank x) (blanks bs) e in rw (blank-textual x (b .0)) (blanks-texts bs (b .1))
 
 blanks-more : (bs t : List ℕ) → blanks bs ≡ true → blanks (bs ++ t) ≡ blanks t
 blanks-more [] t e = refl
@@ -164,11 +247,11 @@ module _ (limit at : ℕ) (bs s : List ℕ) (b : blanks bs ≡ true) where
   semicolon-there {n} e h =
       let l : length (bs ++ []) < limit = omega (arith, length-append bs []) in
       let z : suc (length bs) + n ≡ suc (length bs + n) = omega arith in
-      rw (line-ahead bs s b, e, blanks-more bs [] b, lt-ltb (length (bs ++ [])) limit l) (ap (λ (k : ℕ). At (at + k)) z)
+      rw (line-ahead bs s (blanks-texts bs b), e, blanks-more bs [] b, lt-ltb (length (bs ++ [])) limit l) (ap (λ (k : ℕ). At (at + k)) z)
 
   semicolon-long : limit ≤ length bs → Missing ≡ nextAt at (semicolonLine limit (59 ∷ (bs ++ s)))
   unfolding semicolonLine
-  semicolon-long h = rw (line-ahead bs s b) (go (line s))
+  semicolon-long h = rw (line-ahead bs s (blanks-texts bs b)) (go (line s))
     where
       go : (r : Res (List ℕ)) → Missing ≡ nextAt at (screen (semicolon limit) (addByte 59 (ahead bs r)))
       go (bad k p) = refl
@@ -177,7 +260,7 @@ module _ (limit at : ℕ) (bs s : List ℕ) (b : blanks bs ≡ true) where
 
   semicolon-more : (x : ℕ) (r : Res (List ℕ)) → blank x ≡ false → line s ≡ addByte x r → Missing ≡ nextAt at (semicolonLine limit (59 ∷ (bs ++ s)))
   unfolding semicolonLine
-  semicolon-more x r f e = rw (line-ahead bs s b, e) (go r)
+  semicolon-more x r f e = rw (line-ahead bs s (blanks-texts bs b), e) (go r)
     where
       go : (r : Res (List ℕ)) → Missing ≡ nextAt at (screen (semicolon limit) (addByte 59 (ahead bs (addByte x r))))
       go (bad k p) = refl
@@ -213,7 +296,7 @@ run-blanks file {from} {to} {r} run h = all-blanks (slice from r file) each
         let m : from + i < r = omega (arith, length-slice from r file (omega arith)) in
         rw (getD-drop from (take r file) i 0, getD-take r file (from + i) 0 m) (run .each (from + i) (omega arith) m)
 
-slice-then : (file : List ℕ) (from to : ℕ) → from ≤ to → to ≤ length file → slice from to file ++ drop to file ≡ drop from file
+pub slice-then : (file : List ℕ) (from to : ℕ) → from ≤ to → to ≤ length file → slice from to file ++ drop to file ≡ drop from file
 slice-then file from to h k =
     sym (drop-append-le from (take to file) (drop to file) (omega (arith, length-take-le to file k))) ∙ ap (drop from) (take-append-drop to file)
 
@@ -324,11 +407,11 @@ module _ (file : List ℕ) (limit at : ℕ) where
 
 -- just these bytes, at a place of the file
 module _ (w file : List ℕ) (at : ℕ) where
-  word-short : length file - at < length w → Missing ≡ nextAt at (word w (drop at file))
+  pub word-short : length file - at < length w → Missing ≡ nextAt at (word w (drop at file))
   unfolding word octets
   word-short h = rw (lt-leb (length w) (length (drop at file)) (omega (arith, length-drop at file)))
 
-  word-at : (to : ℕ) → to ≡ at + length w → to ≤ length file → (t : Bool) → same (slice at to file) w ≡ t → cond t (At to) Missing ≡ nextAt at (word w (drop at file))
+  pub word-at : (to : ℕ) → to ≡ at + length w → to ≤ length file → (t : Bool) → same (slice at to file) w ≡ t → cond t (At to) Missing ≡ nextAt at (word w (drop at file))
   unfolding word octets
   word-at to e h t q = rw (le-leb (length w) (length (drop at file)) (omega (arith, length-drop at file)), e) (go t (ap (λ (l : List ℕ). same l w) (sym part) ∙ q))
     where

@@ -17,6 +17,7 @@ use Rattle.cbf_format.specs.Lines.{line, lineOr, endLength, refusedByte}
 use Rattle.cbf_walk.proofs.ParserLaws.{cut≢ok, ok-val, unbind, uncount, unscreen}
 use Rattle.cbf_format.specs.Headers.{nameByte, addName, splitColon, someName, continues, malformed, orMalformed, headerLine, HeaderLines, addLine, moreLines, headerLines, Grouped, group}
 use Rattle.cbf_reader.specs.Places.{Run}
+use Rattle.cbf_reader.specs.HeaderPlaces.{Fresh}
 use Rattle.cbf_reader.specs.Values.{in-blanks, joinedFrom, joined, endByte}
 use Rattle.cbf_reader.proofs.ValueLaws.{Lacks, differs, end-other, joined-byte, joined-13, joined-10, after-return, blanks-over, in-blanks-blank, skip-blank, skip-other}
 
@@ -263,10 +264,6 @@ pub data Lying (s : List ℕ) : ℕ → List (ℕ × List ℕ) → Type 0 where
   done : {at : ℕ} → Lying s at []
   next : {at n : ℕ} {t : List ℕ} {ls : List (ℕ × List ℕ)} → line (drop at s) ≡ ok t n → Lying s (at + n) ls → Lying s at ((at, t) ∷ ls)
 
-abbrev pub Fresh : List (ℕ × List ℕ) → Type 0
-Fresh [] = Unit {0}
-Fresh (l ∷ ls) = continues (l .1) ≡ false
-
 -- the lines that continue the line t at at, and those after them
 pub record Taken (s : List ℕ) (at : ℕ) (t : List ℕ) (ls : List (ℕ × List ℕ)) : Type 0 where
   pub more : List (ℕ × List ℕ)
@@ -328,7 +325,7 @@ lines-lie limit (suc f) first at s r hs n d h =
         let b = rest (u .val) (u .first) (ap (λ (z : ℕ). headerLines limit f false (at + z) (drop k r)) (sym e) ∙ u .did) in
         subst (λ (z : HeaderLines). Lying s at (z .lines) × Formed first (z .lines)) q (next (ap line d ∙ l) (b .0), (w, b .1))
 
-fresh-text : (first : Bool) (ls : List (ℕ × List ℕ)) → Formed first ls → Fresh ls → group ls .text ≡ []
+pub fresh-text : (first : Bool) (ls : List (ℕ × List ℕ)) → Formed first ls → Fresh ls → group ls .text ≡ []
 fresh-text first [] w h = refl
 fresh-text first ((at, []) ∷ ls) w h = absurd w
 fresh-text first ((at, x ∷ t) ∷ ls) w h = let q = header-name first x t (w .0) h in header-text at (x ∷ t) (q .0 .0) (q .0 .1) h (q .1) ls

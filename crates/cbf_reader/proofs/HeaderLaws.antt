@@ -16,6 +16,7 @@ use Rattle.cbf_format.specs.Sections.{fileLimit}
 use Rattle.cbf_format.proofs.LineTame.{line-pos, line-tame}
 use Rattle.cbf_pixels.specs.declared.Refusal.{Refusal}
 use Rattle.cbf_reader.specs.Places.{lineAt, headersAt}
+use Rattle.cbf_reader.specs.HeaderPlaces.{refusedHeader, LineHere, EmptyHere, LinesHere}
 use Rattle.cbf_reader.specs.declared.line.Line.{Line}
 use Rattle.cbf_reader.specs.declared.line.Line.the-variants as L
 use Rattle.cbf_reader.specs.declared.headers.HeaderEnd.{HeaderEnd}
@@ -32,10 +33,6 @@ line-ok (x ∷ xs) = go (eqb x 10) (eqb x 13) (line-ok xs)
     go true v r = ([], 1, refl)
     go false true r = ([], endLength (hd xs), refl)
     go false false r = (x ∷ r .0, suc (r .1), ap (addByte x) (r .2))
-
--- what is tested of a header line
-abbrev pub refusedHeader : ℕ → Bool → List ℕ → Option (ℕ × ℕ)
-refusedHeader limit first t = orMalformed (refusedByte limit 0 t) (malformed first t)
 
 module _ (limit : ℕ) (first : Bool) where
   pub header-not-cut : (s : List ℕ) → headerLine limit first s ≡ cut → ⊥
@@ -221,33 +218,9 @@ module _ (file : List ℕ) (at limit next : ℕ) (first : Bool) (r : Passed file
 
 -- ---- where the lines stand in the file, for a second pass over them
 
--- a header line l that starts m bytes after at
-pub record LineHere (file : List ℕ) (at limit : ℕ) (first : Bool) (m : ℕ) (l : ℕ × List ℕ) : Type 0 where
-  pub place : l .0 ≡ m
-  pub taken : ℕ
-  pub reads : line (drop (at + m) file) ≡ ok (l .1) taken
-  pub passes : refusedHeader limit first (l .1) ≡ none
-  pub some-text : 0 < length (l .1)
-  pub moves : 0 < taken
-  pub inside : at + (m + taken) ≤ length file
-
--- the empty line, m bytes after at
-pub record EmptyHere (file : List ℕ) (at m empty after : ℕ) : Type 0 where
-  pub place : empty ≡ m
-  pub taken : ℕ
-  pub reads : line (drop (at + m) file) ≡ ok [] taken
-  pub moves : 0 < taken
-  pub ends : after ≡ m + taken
-  pub inside : at + after ≤ length file
-
--- these lines, each where the line before ends, the first of them m bytes after at, and then the empty line
-abbrev pub LinesHere : List ℕ → ℕ → ℕ → ℕ → ℕ → Bool → ℕ → List (ℕ × List ℕ) → Type 0
-LinesHere file at limit empty after first m [] = EmptyHere file at m empty after
-LinesHere file at limit empty after first m (l ∷ ls) = (h : LineHere file at limit first m l) × LinesHere file at limit empty after false (m + h .taken) ls
-
 -- what n bytes from there on gave
-abbrev pub HeadersHere : List ℕ → ℕ → ℕ → Bool → ℕ → HeaderLines → ℕ → Type 0
-HeadersHere file at limit first m hs n = LinesHere file at limit (hs .empty) (m + n) first m (hs .lines)
+abbrev pub HeadersAfter : List ℕ → ℕ → ℕ → Bool → ℕ → HeaderLines → ℕ → Type 0
+HeadersAfter file at limit first m hs n = LinesHere file at limit (hs .empty) (m + n) first m (hs .lines)
 
 byte-left : (limit f : ℕ) (first : Bool) (m : ℕ) (s : List ℕ) {hs : HeaderLines} {n : ℕ} → headerLines limit f first m s ≡ ok hs n → 0 < length s
 byte-left limit f first m [] e = absurd (cut≢ok (sym (no-byte-turn limit f first m) ∙ e))
@@ -262,8 +235,8 @@ unwith-line m t k (ok rest j) hs n e = (rest, j, refl, ok-val e, ok-num e)
 
 -- the first line stands there, where the lines after it do
 module _ (file : List ℕ) (at limit f : ℕ) (first : Bool) (m : ℕ) where
-  first-here : ((a : ℕ) (hs : HeaderLines) (n : ℕ) → headerLines limit f false a (drop (at + a) file) ≡ ok hs n → HeadersHere file at limit false a hs n)
-      → (hs : HeaderLines) (n : ℕ) → headerLines limit (suc f) first m (drop (at + m) file) ≡ ok hs n → HeadersHere file at limit first m hs n
+  first-here : ((a : ℕ) (hs : HeaderLines) (n : ℕ) → headerLines limit f false a (drop (at + a) file) ≡ ok hs n → HeadersAfter file at limit false a hs n)
+      → (hs : HeaderLines) (n : ℕ) → headerLines limit (suc f) first m (drop (at + m) file) ≡ ok hs n → HeadersAfter file at limit first m hs n
   first-here after-it hs n e = go (headerLine limit first (drop (at + m) file)) refl
     where
       left : 0 < length (drop (at + m) file)
@@ -272,10 +245,10 @@ module _ (file : List ℕ) (at limit f : ℕ) (first : Bool) (m : ℕ) where
       lt : at + m < length file
       lt = omega (arith, left, length-drop (at + m) file)
 
-      last : (k : ℕ) → headerLine limit first (drop (at + m) file) ≡ ok [] k → _≡_ {A = Res HeaderLines} (ok (record { lines = []; empty = m }) k) (ok hs n) → HeadersHere file at limit first m hs n
+      last : (k : ℕ) → headerLine limit first (drop (at + m) file) ≡ ok [] k → _≡_ {A = Res HeaderLines} (ok (record { lines = []; empty = m }) k) (ok hs n) → HeadersAfter file at limit first m hs n
       last k q w =
           let v = header-moves limit first file (at + m) lt [] k q in
-          subst (λ (h : HeaderLines). HeadersHere file at limit first m h n) (ok-val w)
+          subst (λ (h : HeaderLines). HeadersAfter file at limit first m h n) (ok-val w)
           (record {
             place = refl;
             taken = k;
@@ -286,20 +259,20 @@ module _ (file : List ℕ) (at limit f : ℕ) (first : Bool) (m : ℕ) where
           })
 
       more : (x : ℕ) (t : List ℕ) (k : ℕ) → headerLine limit first (drop (at + m) file) ≡ ok (x ∷ t) k → (rest : HeaderLines) (j : ℕ)
-          → headerLines limit f false (m + k) (drop k (drop (at + m) file)) ≡ ok rest j → addLine m (x ∷ t) rest ≡ hs → k + j ≡ n → HeadersHere file at limit first m hs n
+          → headerLines limit f false (m + k) (drop k (drop (at + m) file)) ≡ ok rest j → addLine m (x ∷ t) rest ≡ hs → k + j ≡ n → HeadersAfter file at limit first m hs n
       more x t k q rest j w u z =
           let v = header-moves limit first file (at + m) lt (x ∷ t) k q in
           let l = header-is-line limit first (drop (at + m) file) (x ∷ t) k q in
           let p : at + m + k ≡ at + (m + k) = omega arith in
           let o : m + k + j ≡ m + n = omega arith in
           let d : drop (at + (m + k)) file ≡ drop k (drop (at + m) file) = sym (drop-drop k (at + m) file ∙ ap (λ (i : ℕ). drop i file) p) in
-          let ls : HeadersHere file at limit false (m + k) rest j = after-it (m + k) rest j (ap (headerLines limit f false (m + k)) d ∙ w) in
-          subst (λ (h : HeaderLines). HeadersHere file at limit first m h n) u (
+          let ls : HeadersAfter file at limit false (m + k) rest j = after-it (m + k) rest j (ap (headerLines limit f false (m + k)) d ∙ w) in
+          subst (λ (h : HeaderLines). HeadersAfter file at limit first m h n) u (
             record { place = refl; taken = k; reads = l .0; passes = l .1; some-text = omega arith; moves = v .0; inside = omega (arith, v .1) },
             subst (λ (i : ℕ). LinesHere file at limit (rest .empty) i false (m + k) (rest .lines)) o ls,
           )
 
-      go : (y : Res (List ℕ)) → headerLine limit first (drop (at + m) file) ≡ y → HeadersHere file at limit first m hs n
+      go : (y : Res (List ℕ)) → headerLine limit first (drop (at + m) file) ≡ y → HeadersAfter file at limit first m hs n
       go (bad k p) q = absurd (bad≢ok (sym (refused-turn limit f first m (drop (at + m) file) left k p q) ∙ e))
       go cut q = absurd (header-not-cut limit first (drop (at + m) file) q)
       go (ok [] k) q = last k q (sym (empty-turn limit f first m (drop (at + m) file) left k q) ∙ e)
@@ -308,7 +281,7 @@ module _ (file : List ℕ) (at limit f : ℕ) (first : Bool) (m : ℕ) where
           more x t k q (u .0) (u .1) (u .2) (u .3) (u .4)
 
 pub lines-here : (file : List ℕ) (at limit f : ℕ) (first : Bool) (m : ℕ) (hs : HeaderLines) (n : ℕ) → headerLines limit f first m (drop (at + m) file) ≡ ok hs n
-    → HeadersHere file at limit first m hs n
+    → HeadersAfter file at limit first m hs n
 unfolding headerLines
 lines-here file at limit zero first m hs n e = absurd (cut≢ok e)
 lines-here file at limit (suc f) first m hs n e = first-here file at limit f first m (λ a hs n e. lines-here file at limit f false a hs n e) hs n e

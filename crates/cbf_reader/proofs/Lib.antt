@@ -4,9 +4,15 @@ pub mod LineLaws
 pub mod FirstLineLaws
 pub mod HeaderLaws
 pub mod ValueLaws
-pub mod JoinedLaws
-pub mod WordLaws
 pub mod Grouping
+pub mod PartsLaws
+pub mod WordLaws
+pub mod PartLaws
+pub mod KnownLaws
 pub mod DescriptionLaws
+pub mod JudgeLaws
+pub mod SectionHeaderLaws
 pub mod ClosingLaws
 pub mod GroupLaws
+pub mod Base64Laws
+pub mod DataLaws

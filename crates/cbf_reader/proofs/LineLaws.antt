@@ -111,44 +111,56 @@ line-good (x ∷ s) = go (eqb x 10) (eqb x 13) refl refl (line-good s)
     go false false e f (t, n, g) =
         (x ∷ t, suc n, record { reads = rw (e, f) (ap (addByte x) (g .reads)); front = ap (λ (l : List ℕ). x ∷ l) (g .front); short = let h = g .short in omega arith; within = let h = g .within in omega arith })
 
+-- ---- a line that starts with a run of bytes that end no line, from `at` up to r
+
+module _ (file : List ℕ) {test : ℕ → Bool} {at to r : ℕ} (run : Run test file at to r) (fits : to ≤ length file) where
+  pub line-run : ((x : ℕ) → test x ≡ true → (eqb x 10 ≡ false) × (eqb x 13 ≡ false)) → (t : List ℕ) (n : ℕ) → line (drop r file) ≡ ok t n
+      → line (drop at file) ≡ ok (slice at r file ++ t) (r - at + n)
+  line-run inside t n e = by-run (λ (j : ℕ). line (drop j file) ≡ ok (slice j r file ++ t) (r - j + n)) run step base
+    where
+      step : (j : ℕ) → at ≤ j → j < r → test (getD file j 0) ≡ true
+          → line (drop (suc j) file) ≡ ok (slice (suc j) r file ++ t) (r - suc j + n) → line (drop j file) ≡ ok (slice j r file ++ t) (r - j + n)
+      step j h k p ih =
+          let hi = run .high in
+          let b = getD file j 0 in
+          let w = inside b p in
+          let m : suc (r - suc j + n) ≡ r - j + n = omega arith in
+          let s : b ∷ slice (suc j) r file ≡ slice j r file = sym (slice-cons j r file 0 k (omega arith)) in
+          ap line (drop-cons file j 0 (omega arith)) ∙ rw (w .0, w .1) (ap (addByte b) ih ∙ (λ i. ok (s i ++ t) (m i)))
+
+      base : line (drop r file) ≡ ok (slice r r file ++ t) (r - r + n)
+      base = let m : n ≡ r - r + n = omega arith in e ∙ (λ i. ok (sym (slice-empty r file) i ++ t) (m i))
+
+  -- a refusal, byte by byte, passes the bytes of the run
+  pub refused-run : (limit : ℕ) → r ≤ at + limit → (refused : ℕ → List ℕ → Option (ℕ × ℕ))
+      → ((i x : ℕ) (t : List ℕ) → test x ≡ true → i < limit → refused i (x ∷ t) ≡ refused (suc i) t)
+      → (t : List ℕ) → refused 0 (slice at r file ++ t) ≡ refused (r - at) t
+  refused-run limit near refused pass t =
+      let z : 0 ≡ at - at = omega arith in
+      ap (λ (k : ℕ). refused k (slice at r file ++ t)) z ∙ by-run (λ (j : ℕ). refused (j - at) (slice j r file ++ t) ≡ refused (r - at) t) run step base
+    where
+      step : (j : ℕ) → at ≤ j → j < r → test (getD file j 0) ≡ true
+          → refused (suc j - at) (slice (suc j) r file ++ t) ≡ refused (r - at) t → refused (j - at) (slice j r file ++ t) ≡ refused (r - at) t
+      step j h k p ih =
+          let hi = run .high in
+          let m : suc (j - at) ≡ suc j - at = omega arith in
+          ap (λ (l : List ℕ). refused (j - at) (l ++ t)) (slice-cons j r file 0 k (omega arith))
+          ∙ pass (j - at) (getD file j 0) (slice (suc j) r file ++ t) p (omega arith)
+          ∙ ap (λ (c : ℕ). refused c (slice (suc j) r file ++ t)) m
+          ∙ ih
+
+      base : refused (r - at) (slice r r file ++ t) ≡ refused (r - at) t
+      base = ap (λ (l : List ℕ). refused (r - at) (l ++ t)) (slice-empty r file)
+
 -- ---- a text line that starts with a run of text bytes from `at` up to r
 
 module _ (limit : ℕ) (file : List ℕ) {at r : ℕ} (s : Scan limit file at r) where
   module _ (t : List ℕ) (n : ℕ) (e : line (drop r file) ≡ ok t n) where
-    line-run : line (drop at file) ≡ ok (slice at r file ++ t) (r - at + n)
-    line-run = by-run (λ (j : ℕ). line (drop j file) ≡ ok (slice j r file ++ t) (r - j + n)) (s .run) step base
-      where
-        step : (j : ℕ) → at ≤ j → j < r → textual (getD file j 0) ≡ true
-            → line (drop (suc j) file) ≡ ok (slice (suc j) r file ++ t) (r - suc j + n) → line (drop j file) ≡ ok (slice j r file ++ t) (r - j + n)
-        step j h k p ih =
-            let hi = s .high in
-            let b = getD file j 0 in
-            let w = textual-inside b p in
-            let m : suc (r - suc j + n) ≡ r - j + n = omega arith in
-            let f : b ∷ slice (suc j) r file ≡ slice j r file = sym (slice-cons j r file 0 k (omega arith)) in
-            ap line (drop-cons file j 0 (omega arith)) ∙ rw (w .0, w .1) (ap (addByte b) ih ∙ (λ i. ok (f i ++ t) (m i)))
-
-        base : line (drop r file) ≡ ok (slice r r file ++ t) (r - r + n)
-        base = let m : n ≡ r - r + n = omega arith in e ∙ (λ i. ok (sym (slice-empty r file) i ++ t) (m i))
-
-    refused-run : refusedByte limit 0 (slice at r file ++ t) ≡ refusedByte limit (r - at) t
-    refused-run = let z : 0 ≡ at - at = omega arith in ap (λ (k : ℕ). refusedByte limit k (slice at r file ++ t)) z ∙ by-run (λ (j : ℕ). refusedByte limit (j - at) (slice j r file ++ t) ≡ refusedByte limit (r - at) t) (s .run) step base
-      where
-        step : (j : ℕ) → at ≤ j → j < r → textual (getD file j 0) ≡ true
-            → refusedByte limit (suc j - at) (slice (suc j) r file ++ t) ≡ refusedByte limit (r - at) t → refusedByte limit (j - at) (slice j r file ++ t) ≡ refusedByte limit (r - at) t
-        step j h k p ih =
-            let hi = s .high in
-            let ne = s .near in
-            let m : suc (j - at) ≡ suc j - at = omega arith in
-            ap (λ (l : List ℕ). refusedByte limit (j - at) (l ++ t)) (slice-cons j r file 0 k (omega arith))
-            ∙ rw (p, lt-ltb (j - at) limit (omega arith)) (ap (λ (c : ℕ). refusedByte limit c (slice (suc j) r file ++ t)) m ∙ ih)
-
-        base : refusedByte limit (r - at) (slice r r file ++ t) ≡ refusedByte limit (r - at) t
-        base = ap (λ (l : List ℕ). refusedByte limit (r - at) (l ++ t)) (slice-empty r file)
-
     text-run : textLine limit (drop at file) ≡ screenOr (refusedByte limit (r - at) t) (slice at r file ++ t) (r - at + n)
     unfolding textLine
-    text-run = ap (screen (refusedByte limit 0)) line-run ∙ ap (λ (o : Option (ℕ × ℕ)). screenOr o (slice at r file ++ t) (r - at + n)) refused-run
+    text-run =
+        ap (screen (refusedByte limit 0)) (line-run file (s .run) (s .high) textual-inside t n e)
+        ∙ ap (λ (o : Option (ℕ × ℕ)). screenOr o (slice at r file ++ t) (r - at + n)) (refused-run file (s .run) (s .high) limit (s .near) (refusedByte limit) (λ i x t p h. rw (p, lt-ltb i limit h)) t)
 
     pub run-refused : (k : ℕ) → refusedByte limit (r - at) t ≡ some (k, r - at) → Refused (record { number = k; place = r }) ≡ lineAt at (textLine limit (drop at file))
     run-refused k f =

@@ -14,7 +14,7 @@ use borrow.Author.Tests.{eq-eqb, ne-eqb, eqb-true, eqb-false, le-leb, lt-leb, le
 use Rattle.cbf_format.specs.Text.{blank, digit, lower, lowers, same, skip, addEnd, trimEnd, trim}
 use Rattle.cbf_format.specs.Values.{digits, decimal, number, between}
 use Rattle.cbf_reader.specs.Places.{Run}
-use Rattle.cbf_reader.specs.Values.{Within, in-text, after-13, in-blanks, joinedFrom, joined, endByte, Indented, wholeOf}
+use Rattle.cbf_reader.specs.Values.{Within, in-text, after-13, in-blanks, joinedFrom, joined, endByte, blankOrEnd, Indented, wholeOf}
 use Rattle.cbf_reader.specs.declared.value.Whole.the-variants.{Bad, Number}
 
 -- ---- bytes
@@ -45,40 +45,47 @@ unfolding joinedFrom
 after-return [] h = refl
 after-return (x ∷ t) h = rw h
 
+-- what a byte adds to the text: itself, a space, or nothing
+pub data Adds (x : ℕ) : List ℕ → Type 0 where
+  itself : Adds x (x ∷ [])
+  a-space : Adds x (32 ∷ [])
+  nothing : Adds x []
+
 -- what a byte gives in a state: the bytes of the text, and the state after it
-record Step (w : Within) (x : ℕ) : Type 0 where
-  bytes : List ℕ
-  after : Within
-  steps : (t : List ℕ) → joinedFrom w (x ∷ t) ≡ bytes ++ joinedFrom after t
+pub record Step (w : Within) (x : ℕ) : Type 0 where
+  pub bytes : List ℕ
+  pub after : Within
+  pub adds : Adds x bytes
+  pub steps : (t : List ℕ) → joinedFrom w (x ∷ t) ≡ bytes ++ joinedFrom after t
 
 step-text : (x : ℕ) → Step in-text x
 unfolding joinedFrom
 step-text x = go (eqb x 13) refl (eqb x 10) refl
   where
     go : (a : Bool) → eqb x 13 ≡ a → (b : Bool) → eqb x 10 ≡ b → Step in-text x
-    go true e b f = record { bytes = 32 ∷ []; after = after-13; steps = λ t. rw e }
-    go false e true f = record { bytes = 32 ∷ []; after = in-blanks; steps = λ t. rw (e, f) }
-    go false e false f = record { bytes = x ∷ []; after = in-text; steps = λ t. rw (e, f) }
+    go true e b f = record { bytes = 32 ∷ []; after = after-13; adds = a-space; steps = λ t. rw e }
+    go false e true f = record { bytes = 32 ∷ []; after = in-blanks; adds = a-space; steps = λ t. rw (e, f) }
+    go false e false f = record { bytes = x ∷ []; after = in-text; adds = itself; steps = λ t. rw (e, f) }
 
 step-blanks : (x : ℕ) → Step in-blanks x
 unfolding joinedFrom
 step-blanks x = go (eqb x 10) refl (eqb x 13) refl (blank x) refl
   where
     go : (a : Bool) → eqb x 10 ≡ a → (b : Bool) → eqb x 13 ≡ b → (d : Bool) → blank x ≡ d → Step in-blanks x
-    go true e b f d g = record { bytes = 32 ∷ []; after = in-blanks; steps = λ t. rw e }
-    go false e true f d g = record { bytes = 32 ∷ []; after = after-13; steps = λ t. rw (e, f) }
-    go false e false f true g = record { bytes = []; after = in-blanks; steps = λ t. rw (e, f, g) }
-    go false e false f false g = record { bytes = x ∷ []; after = in-text; steps = λ t. rw (e, f, g) }
+    go true e b f d g = record { bytes = 32 ∷ []; after = in-blanks; adds = a-space; steps = λ t. rw e }
+    go false e true f d g = record { bytes = 32 ∷ []; after = after-13; adds = a-space; steps = λ t. rw (e, f) }
+    go false e false f true g = record { bytes = []; after = in-blanks; adds = nothing; steps = λ t. rw (e, f, g) }
+    go false e false f false g = record { bytes = x ∷ []; after = in-text; adds = itself; steps = λ t. rw (e, f, g) }
 
 step-13 : (x : ℕ) → Step after-13 x
 unfolding joinedFrom
 step-13 x = go (eqb x 10) refl
   where
     go : (a : Bool) → eqb x 10 ≡ a → Step after-13 x
-    go true e = record { bytes = []; after = in-blanks; steps = λ t. rw e }
-    go false e = let s = step-blanks x in record { bytes = s .bytes; after = s .after; steps = λ t. after-return (x ∷ t) e ∙ s .steps t }
+    go true e = record { bytes = []; after = in-blanks; adds = nothing; steps = λ t. rw e }
+    go false e = let s = step-blanks x in record { bytes = s .bytes; after = s .after; adds = s .adds; steps = λ t. after-return (x ∷ t) e ∙ s .steps t }
 
-step : (w : Within) (x : ℕ) → Step w x
+pub step : (w : Within) (x : ℕ) → Step w x
 step in-text x = step-text x
 step after-13 x = step-13 x
 step in-blanks x = step-blanks x
@@ -319,21 +326,17 @@ skip-13 (x ∷ t) = go (eqb x 10) refl
     go true e = rw (eqb-true x 10 e)
     go false e = ap skip (after-return (x ∷ t) e) ∙ skip-blanks (x ∷ t)
 
--- a blank, or a byte of a line end
-abbrev passable : ℕ → Bool
-passable x = endByte x || blank x
-
 or-left : (a b : Bool) → (a || b) ≡ false → a ≡ false
 or-left false b h = refl
 or-left true b h = h
 
-not-end : (x : ℕ) → passable x ≡ false → endByte x ≡ false
+pub not-end : (x : ℕ) → blankOrEnd x ≡ false → endByte x ≡ false
 not-end x h = or-left (endByte x) (blank x) h
 
-not-blank : (x : ℕ) → passable x ≡ false → blank x ≡ false
+pub not-blank : (x : ℕ) → blankOrEnd x ≡ false → blank x ≡ false
 not-blank x h = ap (λ (b : Bool). b || blank x) (sym (not-end x h)) ∙ h
 
-front : (x : ℕ) (t : List ℕ) → passable x ≡ true → skip (joined (x ∷ t)) ≡ skip (joined t)
+front : (x : ℕ) (t : List ℕ) → blankOrEnd x ≡ true → skip (joined (x ∷ t)) ≡ skip (joined t)
 front x t h = go (eqb x 13) refl (eqb x 10) refl
   where
     go : (a : Bool) → eqb x 13 ≡ a → (b : Bool) → eqb x 10 ≡ b → skip (joined (x ∷ t)) ≡ skip (joined t)
@@ -351,7 +354,7 @@ add-blank : (x : ℕ) → blank x ≡ true → trimEnd (x ∷ []) ≡ []
 add-blank x h = rw h
 
 -- a blank or a line end at the end of a value gives nothing or a blank
-back-text : (x : ℕ) → passable x ≡ true → trimEnd (joinedFrom in-text (x ∷ [])) ≡ []
+back-text : (x : ℕ) → blankOrEnd x ≡ true → trimEnd (joinedFrom in-text (x ∷ [])) ≡ []
 unfolding joinedFrom
 back-text x h = go (eqb x 13) refl (eqb x 10) refl
   where
@@ -360,7 +363,7 @@ back-text x h = go (eqb x 13) refl (eqb x 10) refl
     go false e true f = rw (e, f)
     go false e false f = rw (e, f) (add-blank x (ap (λ (b : Bool). b || blank x) (sym (end-other x e f)) ∙ h))
 
-back-blanks : (x : ℕ) → passable x ≡ true → trimEnd (joinedFrom in-blanks (x ∷ [])) ≡ []
+back-blanks : (x : ℕ) → blankOrEnd x ≡ true → trimEnd (joinedFrom in-blanks (x ∷ [])) ≡ []
 unfolding joined joinedFrom
 back-blanks x h = go (blank x) refl
   where
@@ -368,7 +371,7 @@ back-blanks x h = go (blank x) refl
     go true e = rw (differs blank true x 10 e refl, differs blank true x 13 e refl, e)
     go false e = ap trimEnd (blanks-over (x ∷ []) e) ∙ back-text x h
 
-back-one : (w : Within) (x : ℕ) → passable x ≡ true → trimEnd (joinedFrom w (x ∷ [])) ≡ []
+back-one : (w : Within) (x : ℕ) → blankOrEnd x ≡ true → trimEnd (joinedFrom w (x ∷ [])) ≡ []
 unfolding joined joinedFrom
 back-one in-text x h = back-text x h
 back-one in-blanks x h = back-blanks x h
@@ -378,7 +381,7 @@ back-one after-13 x h = go (eqb x 10) refl
     go true e = rw e
     go false e = ap trimEnd (after-return (x ∷ []) e) ∙ back-blanks x h
 
-back-from : (w : Within) (t : List ℕ) (x : ℕ) → passable x ≡ true → trimEnd (joinedFrom w (t ++ (x ∷ []))) ≡ trimEnd (joinedFrom w t)
+back-from : (w : Within) (t : List ℕ) (x : ℕ) → blankOrEnd x ≡ true → trimEnd (joinedFrom w (t ++ (x ∷ []))) ≡ trimEnd (joinedFrom w t)
 unfolding joinedFrom
 back-from w [] x h = back-one w x h
 back-from w (y ∷ t) x h =
@@ -404,11 +407,11 @@ trim-skip (x ∷ t) = go (trim-skip t) (blank x) refl
     go rest true e = ap trimEnd (skip-blank x t e) ∙ rest ∙ blank-first (trimEnd t) e
     go rest false e = ap trimEnd (skip-other x t e) ∙ other-first (trimEnd t) e
 
-back : (t : List ℕ) (x : ℕ) → passable x ≡ true → trim (joined (t ++ (x ∷ []))) ≡ trim (joined t)
+back : (t : List ℕ) (x : ℕ) → blankOrEnd x ≡ true → trim (joined (t ++ (x ∷ []))) ≡ trim (joined t)
 unfolding joined
 back t x h = trim-skip (joined (t ++ (x ∷ []))) ∙ ap skip (back-from in-text t x h) ∙ sym (trim-skip (joined t))
 
-last-from : (w : Within) (t : List ℕ) (x : ℕ) → passable x ≡ false → joinedFrom w (t ++ (x ∷ [])) ≡ joinedFrom w t ++ (x ∷ [])
+last-from : (w : Within) (t : List ℕ) (x : ℕ) → blankOrEnd x ≡ false → joinedFrom w (t ++ (x ∷ [])) ≡ joinedFrom w t ++ (x ∷ [])
 unfolding joinedFrom
 last-from in-text [] x h = rw (differs endByte false x 13 (not-end x h) refl, differs endByte false x 10 (not-end x h) refl)
 last-from after-13 [] x h = rw (differs endByte false x 10 (not-end x h) refl, differs endByte false x 13 (not-end x h) refl, not-blank x h)
@@ -430,7 +433,7 @@ trimEnd-last (y ∷ l) x h = ap (addEnd y) (trimEnd-last l x h) ∙ kept l
 
 -- ---- the blanks at both ends, in the file
 
-trim-none : (x : ℕ) (t s : List ℕ) (y : ℕ) → x ∷ t ≡ s ++ (y ∷ []) → passable x ≡ false → passable y ≡ false → trim (joined (x ∷ t)) ≡ joined (x ∷ t)
+trim-none : (x : ℕ) (t s : List ℕ) (y : ℕ) → x ∷ t ≡ s ++ (y ∷ []) → blankOrEnd x ≡ false → blankOrEnd y ≡ false → trim (joined (x ∷ t)) ≡ joined (x ∷ t)
 unfolding joined
 trim-none x t s y e p q =
     let j : joined (x ∷ t) ≡ joined s ++ (y ∷ []) = ap joined e ∙ last-from in-text s y q in
@@ -448,16 +451,20 @@ module _ (file : List ℕ) (a b : ℕ) (lt : a < b) (fits : b ≤ length file) w
       ∙ ap (drop a) (take-suc file (b - 1) 0 (omega arith))
       ∙ drop-append-le a (take (b - 1) file) (getD file (b - 1) 0 ∷ []) (omega (arith, length-take-le (b - 1) file (omega arith)))
 
-  pub trim-front : passable (getD file a 0) ≡ true → trim (joined (slice a b file)) ≡ trim (joined (slice (a + 1) b file))
+  pub joined-back : blankOrEnd (getD file (b - 1) 0) ≡ false → joined (slice a b file) ≡ joined (slice a (b - 1) file) ++ (getD file (b - 1) 0 ∷ [])
+  unfolding joined
+  joined-back h = ap joined slice-last ∙ last-from in-text (slice a (b - 1) file) (getD file (b - 1) 0) h
+
+  pub trim-front : blankOrEnd (getD file a 0) ≡ true → trim (joined (slice a b file)) ≡ trim (joined (slice (a + 1) b file))
   trim-front h =
       ap trim (joined-slice file b fits a lt)
       ∙ ap trimEnd (front (getD file a 0) (slice (suc a) b file) h)
       ∙ ap (λ (k : ℕ). trim (joined (slice k b file))) (sym (add-one a))
 
-  pub trim-back : passable (getD file (b - 1) 0) ≡ true → trim (joined (slice a b file)) ≡ trim (joined (slice a (b - 1) file))
+  pub trim-back : blankOrEnd (getD file (b - 1) 0) ≡ true → trim (joined (slice a b file)) ≡ trim (joined (slice a (b - 1) file))
   trim-back h = ap (λ (l : List ℕ). trim (joined l)) slice-last ∙ back (slice a (b - 1) file) (getD file (b - 1) 0) h
 
-  pub trim-over : passable (getD file a 0) ≡ false → passable (getD file (b - 1) 0) ≡ false → trim (joined (slice a b file)) ≡ joined (slice a b file)
+  pub trim-over : blankOrEnd (getD file a 0) ≡ false → blankOrEnd (getD file (b - 1) 0) ≡ false → trim (joined (slice a b file)) ≡ joined (slice a b file)
   trim-over p q =
       let s = slice-cons a b file 0 lt fits in
       ap (λ (l : List ℕ). trim (joined l)) s

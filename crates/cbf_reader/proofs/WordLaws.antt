@@ -4,7 +4,6 @@ use mathlib.Core.Option.{none, some}
 use mathlib.Core.Bool.{Bool, true, false, cond}
 use mathlib.Core.List.{List, [], _∷_, _++_}
 use Prim.Native.Nat.{ℕ, suc, _+_, _-_, _<_, _≤_}
-use native.Mathlib.Numerals.{add-one}
 use native.Mathlib.Omega.{arith}
 use lib.Dec.{leb, ltb, eqb}
 use borrow.Author.Tests.{ltb-true, leb-true, eq-eqb, ne-eqb}
@@ -13,7 +12,7 @@ use lib.Seq.{slice, slice-empty, drop-cons}
 use Rattle.cbf_format.specs.Text.{lowers, same}
 use Rattle.cbf_format.specs.Values.{oneOf, addQuoted, endQuote, unquote}
 use Rattle.cbf_reader.specs.Values.{joined, joinedFrom, Trimmed}
-use Rattle.cbf_reader.proofs.JoinedLaws.{joined-front, joined-back}
+use Rattle.cbf_reader.proofs.ValueLaws.{not-end, joined-next, joined-back}
 
 -- the text is none of the first n words
 pub record Missed (n : ℕ) (ws : List (List ℕ)) (t : List ℕ) : Type 0 where
@@ -60,7 +59,7 @@ module _ {file : List ℕ} {from to : ℕ} (v : Trimmed file from to) where
 
   module _ (h : from < to) where
     front : joined (slice from to file) ≡ getD file from 0 ∷ joined (slice (from + 1) to file)
-    front = rw add-one (joined-front from to file h (v .inside) (v .front h))
+    front = joined-next file to (v .inside) from h (not-end (getD file from 0) (v .front h))
 
     pub unquoted-whole : (getD file from 0 ≡ 34 → ⊥) → unquote (joined (slice from to file)) ≡ some (joined (slice from to file))
     unquoted-whole e = rw (front, ne-eqb (getD file from 0) 34 e)
@@ -75,10 +74,8 @@ module _ {file : List ℕ} {from to : ℕ} (v : Trimmed file from to) where
     unquoted-two : getD file from 0 ≡ 34 → from + 1 < to
         → unquote (joined (slice from to file)) ≡ cond (eqb (getD file (to - 1) 0) 34) (some (joined (slice (from + 1) (to - 1) file))) none
     unquoted-two e k =
-        let s : to ≡ suc (to - 1) = omega arith in
-        let m : to ≤ length file = v .inside in
-        after-quote e ∙ ap (λ (n : ℕ). endQuote (joined (slice (from + 1) n file))) s
-        ∙ ap endQuote (joined-back (from + 1) (to - 1) file (omega arith) (omega arith) (v .back h))
+        after-quote e
+        ∙ ap endQuote (joined-back file (from + 1) to k (v .inside) (v .back h))
         ∙ end-quote (joined (slice (from + 1) (to - 1) file)) (getD file (to - 1) 0)
 
     pub unquoted-open : getD file from 0 ≡ 34 → from + 1 < to → (getD file (to - 1) 0 ≡ 34 → ⊥) → unquote (joined (slice from to file)) ≡ none

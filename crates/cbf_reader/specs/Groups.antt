@@ -1,13 +1,17 @@
 -- BASE64 text as the code checks it. Document 01: "groups of four, `=` only as one or two at the very end, unused bits zero",
 -- "octet count as declared".
+use mathlib.Core.Path.{_≡_}
 use mathlib.Core.Bool.{Bool, true, false, not, _&&_, cond}
 use mathlib.Core.List.{List, [], _∷_}
-use Prim.Native.Nat.{ℕ, _+_, _*_, _/_, _%_}
+use Prim.Native.Nat.{ℕ, _+_, _*_, _/_, _%_, _≤_}
 use lib.Dec.{eqb}
 use Rattle.cbf_format.specs.declared.Symbol.{Symbol}
 use Rattle.cbf_format.specs.declared.Symbol.the-variants.{Letter, Pad, Blank, Other}
-use Rattle.cbf_format.specs.Base64.{symbol}
+use lib.Seq.{slice}
+use Rattle.cbf_format.specs.Base64.{symbol, isOther}
 use Rattle.cbf_reader.specs.declared.base64.Groups.{Groups}
+use Rattle.cbf_reader.specs.declared.base64.Symbols.{Symbols}
+use Rattle.cbf_reader.specs.Places.{Run}
 
 -- one symbol more
 abbrev pub addSymbolTo : Groups → Symbol → Groups
@@ -36,3 +40,13 @@ unusedZero pads last = cond (eqb pads 0) true (cond (eqb pads 1) (eqb (last % 4)
 unfoldable pub groupsHold : Groups → ℕ → Bool
 groupsHold g size =
     not (g .broken) && (eqb ((g .letters + g .pads) % 4) 0 && (eqb (g .letters * 3 / 4) size && unusedZero (g .pads) (g .last)))
+
+-- a byte of BASE64 text
+unfoldable pub symbolic : ℕ → Bool
+symbolic x = not (isOther (symbol x))
+
+-- the symbols of a text were added to g, up to its end or its first byte that is none
+pub record SymbolsTo (file : List ℕ) (from to : ℕ) (g : Groups) (r : Symbols) : Type 0 where
+  pub run : Run symbolic file from to (r .to)
+  pub added : r .groups ≡ bytesFrom g (slice from (r .to) file)
+  pub most : r .groups .letters + r .groups .pads ≤ r .to

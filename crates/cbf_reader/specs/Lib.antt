@@ -1,5 +1,8 @@
 -- What the contracts of the functions say: the definitions of cbf_format at places of the file.
 pub mod Places
 pub mod Values
-pub mod Groups
 pub mod Found
+pub mod HeaderPlaces
+pub mod Groups
+pub mod Base64Places
+pub mod DataPlaces

@@ -1,11 +1,12 @@
 -- What the parsers say, at a place of the file: for the contracts of the functions that read. Places are whole file offsets.
 use mathlib.Core.Path.{_≡_}
 use mathlib.Core.Bool.{Bool, true, false, cond}
-use mathlib.Core.List.{List}
+use mathlib.Core.List.{List, [], _∷_}
 use Prim.Native.Nat.{ℕ, _+_, _-_, _<_, _≤_}
-use lib.Dec.{ltb}
+use lib.Dec.{eqb, ltb}
 use lib.ListN.{length, getD}
-use Rattle.cbf_walk.specs.Parsers.{Res, bad, cut, ok}
+use Rattle.cbf_walk.specs.Parsers.{Res, bad, cut, ok, hd}
+use Rattle.cbf_format.specs.Lines.{endLength, lineEnd}
 use Rattle.cbf_format.specs.Headers.{HeaderLines}
 use Rattle.cbf_reader.specs.declared.line.Line.{Line}
 use Rattle.cbf_reader.specs.declared.line.Line.the-variants.{Refused, Text}
@@ -27,6 +28,11 @@ pub record Run (test : ℕ → Bool) (file : List ℕ) (from to r : ℕ) : Type 
 abbrev pub farthestFrom : ℕ → ℕ → ℕ → ℕ
 farthestFrom at limit len = cond (ltb limit (len - at)) (at + limit) len
 
+-- where the line end of the bytes from at on ends
+abbrev pub endFrom : ℕ → List ℕ → ℕ
+endFrom at [] = at
+endFrom at (x ∷ xs) = cond (eqb x 13) (at + endLength (hd xs)) (at + 1)
+
 -- a line that was read at a place: where its text ends, and where the next line starts. No line is cut.
 abbrev pub lineAt : ℕ → Res (List ℕ) → Line
 lineAt at (bad k p) = Refused (record { number = k; place = at + p })
@@ -38,6 +44,11 @@ abbrev pub nextAt : {A : Type 0} → ℕ → Res A → Next
 nextAt at (bad k p) = Missing
 nextAt at cut = Missing
 nextAt at (ok a n) = At (at + n)
+
+-- where a line ends, with a line end or with the file
+abbrev pub endedAt : ℕ → List ℕ → Next
+endedAt at [] = At at
+endedAt at (x ∷ xs) = nextAt at (lineEnd (x ∷ xs))
 
 -- what follows the octets: n of its bytes are the span's
 abbrev pub closedAt : ℕ → Res ℕ → Ending

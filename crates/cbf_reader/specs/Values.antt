@@ -2,17 +2,20 @@
 -- one space".
 use mathlib.Core.Path.{_≡_}
 use mathlib.Core.Option.{Option, none, some}
-use mathlib.Core.Bool.{Bool, true, false, cond, _||_}
+use mathlib.Core.Bool.{Bool, true, false, not, cond, _||_}
 use mathlib.Core.List.{List, [], _∷_}
-use Prim.Native.Nat.{ℕ, _+_, _-_, _<_, _≤_}
+use Prim.Native.Nat.{ℕ, _+_, _-_, _^_, _<_, _≤_}
 use lib.Dec.{eqb}
 use lib.ListN.{length, getD}
 use lib.Seq.{slice}
 use Rattle.cbf_format.specs.Text.{blank}
+use Rattle.cbf_format.specs.Values.{parts, contentType}
 use Rattle.cbf_reader.specs.declared.value.Character.{Character}
 use Rattle.cbf_reader.specs.declared.value.Character.the-variants.{End, Byte}
 use Rattle.cbf_reader.specs.declared.header.Inner.{Inner}
 use Rattle.cbf_reader.specs.declared.header.Inner.the-variants as U
+use Rattle.cbf_reader.specs.declared.content_type.PartEnd.{PartEnd}
+use Rattle.cbf_reader.specs.declared.content_type.PartEnd.the-variants as P
 use Rattle.cbf_reader.specs.declared.value.Whole.{Whole}
 use Rattle.cbf_reader.specs.declared.value.Whole.the-variants.{Bad, Number}
 
@@ -62,8 +65,8 @@ knownOf none = 10
 knownOf (some k) = k
 
 -- a blank or a byte of a line end
-unfoldable pub blankOrEnd : ℕ → Bool
-blankOrEnd x = eqb x 13 || (eqb x 10 || blank x)
+abbrev pub blankOrEnd : ℕ → Bool
+blankOrEnd x = endByte x || blank x
 
 -- a value with no blank and no line end at either end
 pub record Trimmed (file : List ℕ) (from to : ℕ) : Type 0 where
@@ -76,3 +79,29 @@ pub record Trimmed (file : List ℕ) (from to : ℕ) : Type 0 where
 abbrev pub unquotedAt : List ℕ → ℕ → ℕ → Option (List ℕ) → Inner → Type 0
 unquotedAt file from to v U.Bad = v ≡ none
 unquotedAt file from to v (U.Text a b) = (v ≡ some (joined (slice a b file))) × (from ≤ a) × (a ≤ b) × (b ≤ to)
+
+-- a part before others
+abbrev pub partThen : List ℕ → Option (List (List ℕ)) → Option (List (List ℕ))
+partThen p none = none
+partThen p (some ps) = some (p ∷ ps)
+
+-- the bytes from at up to the end of a part of Content-Type, and what follows it
+abbrev pub PartAt : List ℕ → ℕ → ℕ → PartEnd → Type 0
+PartAt file at to P.Unclosed = parts false (joined (slice at to file)) ≡ none
+PartAt file at to (P.At p) = (parts false (joined (slice at to file)) ≡ partThen (joined (slice at p file)) (cond (eqb p to) (some []) (parts false (joined (slice (p + 1) to file))))) × (at ≤ p) × (p ≤ to)
+
+-- a value of a known header is below 2^31, and a dimension at least 1
+abbrev pub InRangeOf : ℕ → Whole → Type 0
+InRangeOf known Bad = 0 ≤ 0
+InRangeOf known (Number n) = (n < 2 ^ 31) × (7 ≤ known → 1 ≤ n)
+
+-- what the parts after the `;` at a place say, or no part
+unfoldable pub laterParts : List ℕ → ℕ → ℕ → Option ℕ
+laterParts file at to = contentType (partThen [] (cond (eqb at to) (some []) (parts false (joined (slice (at + 1) to file)))))
+
+abbrev pub notEquals : ℕ → Bool
+notEquals x = not (eqb x 61)
+
+abbrev pub someOf : Option ℕ → Bool
+someOf none = false
+someOf (some n) = true

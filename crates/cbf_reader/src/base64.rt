@@ -2,9 +2,10 @@
 use cbf_format::Symbol;
 ghost use mathlib.Core.Path.{_≡_};
 ghost use mathlib.Core.List.{[]};
-ghost use Prim.Native.Nat.{_≤_};
+ghost use Prim.Native.Nat.{_+_, _≤_};
+ghost use lib.ListN.{length};
 ghost use Rattle.cbf_format.specs.Base64.{symbol as symbolOf};
-ghost use Rattle.cbf_reader.specs.Groups.{addSymbolTo, groupsOf, groupsHold};
+ghost use Rattle.cbf_reader.specs.Groups.{addSymbolTo, groupsOf, SymbolsTo, groupsHold};
 
 // "A match on the byte with ranges gives its six-bit number, a pad, a blank, or none."
 pub fn symbol(b: u8) -> Symbol
@@ -98,4 +99,30 @@ pub fn groups_hold(g: Groups, size: usize) -> bool
         return g.last % 16 == 0;
     }
     false
+}
+
+// The symbols up to a place.
+pub struct Symbols {
+    pub groups: Groups,
+    pub to: usize,
+}
+
+// The symbols of the text from `from` on, added one after another, up to `to` or the first byte that is no letter, pad or blank.
+pub fn text_symbols(file: &[u8], from: usize, to: usize, g: Groups) -> Symbols
+    requires { ⌜ (from ≤ to) × (to ≤ length (now file)) × (g .letters + g .pads ≤ from) × (to ≤ 1073741824) ⌝ }
+    ensures { λ r. ⌜ SymbolsTo (now (file .entry)) from to g r ⌝ }
+{
+    let mut h = g;
+    let mut i = from;
+    while i < to {
+        let s = symbol(file[i]);
+        match s {
+            Symbol::Other => return Symbols { groups: h, to: i },
+            _ => {
+                h = with_symbol(h, s);
+                i += 1;
+            }
+        }
+    }
+    Symbols { groups: h, to: i }
 }

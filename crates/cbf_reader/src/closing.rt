@@ -5,7 +5,7 @@ ghost use Prim.Native.Nat.{_+_, _≤_};
 ghost use lib.ListN.{length, drop};
 ghost use Rattle.cbf_format.specs.Lines.{lineEnd, semicolonLine};
 ghost use Rattle.cbf_format.specs.Sections.{afterSpan as afterSpanOf, closed as closedBy};
-ghost use Rattle.cbf_reader.specs.Places.{nextAt, closedAt};
+ghost use Rattle.cbf_reader.specs.Places.{nextAt, endedAt, closedAt};
 
 // Where what was looked for ends, or that it is not there.
 pub enum Next {
@@ -34,6 +34,17 @@ pub fn line_end(file: &[u8], at: usize) -> Next
         }
     }
     Next::At(at + 1)
+}
+
+// Where the next line starts, where a line ends at i: with a line end or with the file.
+pub fn ended(file: &[u8], i: usize) -> Next
+    requires { ⌜ i ≤ length (now file) ⌝ }
+    ensures { λ r. ⌜ r ≡ endedAt i (drop i (now (file .entry))) ⌝ }
+{
+    if i == file.len() {
+        return Next::At(i);
+    }
+    line_end(file, i)
 }
 
 // The line of `;` and blanks at at.

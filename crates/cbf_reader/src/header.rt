@@ -56,7 +56,7 @@ pub enum Inner {
     Text(usize, usize),
 }
 
-fn unquoted(file: &[u8], from: usize, to: usize) -> Inner
+pub fn unquoted(file: &[u8], from: usize, to: usize) -> Inner
     requires { ⌜ Trimmed (now file) from to ⌝ }
     ensures { λ r. ⌜ unquotedAt (now (file .entry)) from to (unquote (joined (slice from to (now (file .entry))))) r ⌝ }
 {
@@ -76,7 +76,7 @@ fn unquoted(file: &[u8], from: usize, to: usize) -> Inner
 }
 
 // BINARY is 0, BASE64 1.
-fn encoding(file: &[u8], from: usize, to: usize) -> Whole
+pub fn encoding(file: &[u8], from: usize, to: usize) -> Whole
     requires { ⌜ (from ≤ to) × (to ≤ length (now file)) ⌝ }
     ensures { λ r. ⌜ r ≡ wholeOf (oneOf 0 (bytes "binary" ∷ bytes "base64" ∷ []) (joined (slice from to (now (file .entry))))) ⌝ }
 {
@@ -126,7 +126,7 @@ fn byte_order(file: &[u8], from: usize, to: usize) -> Whole
 }
 
 // The element type, quoted or not.
-fn quoted_element_type(file: &[u8], from: usize, to: usize) -> Whole
+pub fn quoted_element_type(file: &[u8], from: usize, to: usize) -> Whole
     requires { ⌜ Trimmed (now file) from to ⌝ }
     ensures { λ r. ⌜ r ≡ wholeOf (quotedOneOf 1 typeNames (unquote (joined (slice from to (now (file .entry)))))) ⌝ }
 {
@@ -138,7 +138,7 @@ fn quoted_element_type(file: &[u8], from: usize, to: usize) -> Whole
 }
 
 // The byte order, quoted or not.
-fn quoted_byte_order(file: &[u8], from: usize, to: usize) -> Whole
+pub fn quoted_byte_order(file: &[u8], from: usize, to: usize) -> Whole
     requires { ⌜ Trimmed (now file) from to ⌝ }
     ensures { λ r. ⌜ r ≡ wholeOf (quotedOneOf 1 (bytes "little_endian" ∷ []) (unquote (joined (slice from to (now (file .entry)))))) ⌝ }
 {

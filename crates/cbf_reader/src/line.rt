@@ -10,7 +10,7 @@ ghost use Rattle.cbf_walk.specs.Parsers.{ok, hd, screen};
 ghost use Rattle.cbf_format.specs.Lines.{line as lineOf, endLength, textLine};
 ghost use Rattle.cbf_format.specs.Headers.{headerLine, malformed as malformedText};
 ghost use Rattle.cbf_format.specs.Files.{identified as identifiedText, refusedFirst};
-ghost use Rattle.cbf_reader.specs.Places.{farthestFrom, lineAt};
+ghost use Rattle.cbf_reader.specs.Places.{farthestFrom, endFrom, lineAt};
 
 // A line: where its text ends, and where the next line starts; or a refusal.
 pub enum Line {
@@ -19,7 +19,7 @@ pub enum Line {
 }
 
 // The place limit bytes after at, or the file's end where that comes first.
-fn farthest(file: &[u8], at: usize, limit: usize) -> usize
+pub fn farthest(file: &[u8], at: usize, limit: usize) -> usize
     requires { ⌜ at ≤ length (now file) ⌝ }
     ensures { λ r. ⌜ r ≡ farthestFrom at limit (length (now (file .entry))) ⌝ }
 {
@@ -38,6 +38,17 @@ fn after_return(file: &[u8], i: usize) -> usize
         if file[i + 1] == 10 {
             return i + 2;
         }
+    }
+    i + 1
+}
+
+// Where the next line starts, where a line's text ends at i before the file's end.
+pub fn after_end(file: &[u8], i: usize) -> usize
+    requires { ⌜ i < length (now file) ⌝ }
+    ensures { λ r. ⌜ (r ≡ endFrom i (drop i (now (file .entry)))) × (i < r) × (r ≤ length (now (file .entry))) ⌝ }
+{
+    if file[i] == 13 {
+        return after_return(file, i);
     }
     i + 1
 }

@@ -8,7 +8,7 @@ ghost use lib.ListN.{length, getD};
 ghost use lib.Seq.{slice};
 ghost use Rattle.cbf_format.specs.Text.{blank as blankByte, lowers, same, trim};
 ghost use Rattle.cbf_format.specs.Values.{number as numberOf, between as betweenOf};
-ghost use Rattle.cbf_reader.specs.Values.{joined, endByte, Indented, Stepped, wholeOf};
+ghost use Rattle.cbf_reader.specs.Values.{joined, endByte, blankOrEnd, Indented, Stepped, Trimmed, wholeOf};
 
 // One character of a value, and where the next one is.
 pub enum Character {
@@ -55,7 +55,7 @@ pub struct Range {
 }
 
 fn blank_or_end(b: u8) -> bool
-    ensures { λ r. ⌜ r ≡ (endByte b || blankByte b) ⌝ }
+    ensures { λ r. ⌜ r ≡ blankOrEnd b ⌝ }
 {
     if b == 13 {
         return true;
@@ -69,7 +69,7 @@ fn blank_or_end(b: u8) -> bool
 // A value without the blanks around it.
 pub fn trimmed(file: &[u8], from: usize, to: usize) -> Range
     requires { ⌜ (from ≤ to) × (to ≤ length (now file)) ⌝ }
-    ensures { λ r. ⌜ (joined (slice (r .from) (r .to) (now (file .entry))) ≡ trim (joined (slice from to (now (file .entry))))) × (r .from ≤ r .to) × (r .to ≤ to) × (from ≤ r .from) ⌝ }
+    ensures { λ r. ⌜ (joined (slice (r .from) (r .to) (now (file .entry))) ≡ trim (joined (slice from to (now (file .entry))))) × Trimmed (now (file .entry)) (r .from) (r .to) × (r .to ≤ to) × (from ≤ r .from) ⌝ }
 {
     let mut a = from;
     let mut b = to;

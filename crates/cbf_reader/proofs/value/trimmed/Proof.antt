@@ -65,17 +65,24 @@ returns c =
     let s = c .before .before .before .before .before .before .before .before .before in
     let l = c .before .before .before .before .before .before .before .loop in
     let t = c .before .before .before .before .before .before .loop-test .taken in
-    let e =
-    trim-over (now (s .args .file)) (l .a) (l .b) t (omega arith)
-    (sym (c .before .before .before .before .blank-or-end .ensures) ∙ c .before .before .before .if1 .left)
-    (sym (c .before .blank-or-end2 .ensures) ∙ c .if2 .left) in
-    (sym e ∙ l .inv .3, omega arith, omega arith, omega arith)
+    let f = sym (c .before .before .before .before .blank-or-end .ensures) ∙ c .before .before .before .if1 .left in
+    let b = sym (c .before .blank-or-end2 .ensures) ∙ c .if2 .left in (
+      sym (trim-over (now (s .args .file)) (l .a) (l .b) t (omega arith) f b) ∙ l .inv .3,
+      record { order = omega arith; inside = omega arith; front = λ h. f; back = λ h. b },
+      omega arith,
+      omega arith,
+    )
 
 returns-2 : tie.Need-returns-2 Inv-loop μ-loop
 returns-2 c =
     let s = c .before .before .before in
     let l = c .before .loop in
-    (sym (trim-empty (now (s .args .file)) (l .a) (l .b) (omega arith)) ∙ l .inv .3, omega arith, omega arith, omega arith)
+    let e : l .a ≡ l .b = omega arith in (
+      sym (trim-empty (now (s .args .file)) (l .a) (l .b) e) ∙ l .inv .3,
+      record { order = omega arith; inside = omega arith; front = λ h. absurd (omega arith); back = λ h. absurd (omega arith) },
+      omega arith,
+      omega arith,
+    )
 
 pub trimmed-spec : {M : Type 1} → statement M
 trimmed-spec =

@@ -1,0 +1,119 @@
+-- `text_symbols` meets its contract: what is added, and what is left of the text, make the whole. Assumes nothing.
+use mathlib.Core.Path.{_≡_, refl, sym, ap, _∙_}
+use mathlib.Core.Bool.{true, false, not}
+use mathlib.Core.List.{[], _∷_}
+use mathlib.Core.Logic.{⊎-elim}
+use Prim.Native.Nat.{ℕ, _+_, _-_, _≤_}
+use native.Mathlib.Omega.{arith}
+use borrow.Author.Needs.{needs}
+use lib.ListN.{getD}
+use lib.Seq.{slice}
+use types.Run.{OneOf}
+use denote.Enum.Declared.{tagOf}
+use Rattle.cbf_format.specs.declared.Symbol.{Symbol}
+use Rattle.cbf_format.specs.declared.Symbol.the-variants.{Letter, Pad, Blank, Other}
+use Rattle.cbf_format.specs.Base64.{symbol, isOther}
+use Rattle.cbf_format.proofs.Symbol.{the-type}
+use Rattle.cbf_reader.specs.declared.base64.Groups.{Groups}
+use Rattle.cbf_reader.specs.Places.{Run}
+use Rattle.cbf_reader.specs.Groups.{addSymbolTo, bytesFrom, symbolic}
+use Rattle.cbf_reader.proofs.Texts.{run-start, run-next, run-stop}
+use Rattle.cbf_reader.proofs.GroupLaws.{bytes-next, bytes-end, symbol-count}
+use Rattle.cbf_reader.proofs.base64.text_symbols.Statement.{statement}
+use Rattle.cbf_reader.proofs.base64.text_symbols.Tie as tie
+
+-- the last arm: a letter, a pad or a blank
+known : (s : Symbol) → OneOf (0 ∷ 1 ∷ 2 ∷ []) (tagOf the-type s) → isOther s ≡ false
+known (Letter n) h = refl
+known Pad h = refl
+known Blank h = refl
+known Other h = absurd (⊎-elim (λ e. omega arith) (λ h. ⊎-elim (λ e. omega arith) (λ e. omega arith) h) h)
+
+byte-known : (x : ℕ) (s : Symbol) → s ≡ symbol x → isOther s ≡ false → symbolic x ≡ true
+unfolding symbolic
+byte-known x s e h = ap (λ (r : Symbol). not (isOther r)) (sym e) ∙ ap not h
+
+byte-other : (x : ℕ) (s : Symbol) → s ≡ symbol x → s ≡ Other → symbolic x ≡ false
+unfolding symbolic
+byte-other x s e h = ap (λ (r : Symbol). not (isOther r)) (sym e ∙ h)
+
+abbrev Inv-loop : tie.InvT-loop
+Inv-loop file from to h₀ i₀ h i =
+    (i ≤ to) × (h .letters + h .pads ≤ i) × Run symbolic file i₀ i i × ((j : ℕ) → i ≤ j → j ≤ to → bytesFrom h (slice i j file) ≡ bytesFrom h₀ (slice i₀ j file))
+
+abbrev μ-loop : tie.MeasureT-loop
+μ-loop file from to h₀ i₀ h i = to - i
+
+loop-holds : tie.Need-loop-holds Inv-loop μ-loop
+loop-holds c = (omega arith, omega arith, run-start _, λ j h k. refl)
+
+shared-slice-read-symbol : tie.Need-shared-slice-read-symbol Inv-loop μ-loop
+shared-slice-read-symbol c = search needs
+
+symbol-requires : tie.Need-symbol-requires Inv-loop μ-loop
+symbol-requires c κs = search needs
+
+enum-told : tie.Need-enum-told Inv-loop μ-loop
+enum-told c = search needs
+
+returns : tie.Need-returns Inv-loop μ-loop
+returns c =
+    let a = c .before .before .before .before .before .before .before .args in
+    let l = c .before .before .before .before .before .loop in
+    let file = a .file .now in
+    record {
+      run = run-stop (l .inv .2) (l .inv .0) (λ h. byte-other (getD file (l .i) 0) (c .before .before .symbol .result) (c .before .before .symbol .ensures) (c .enum-told .given .1));
+      added = sym (bytes-end (l .h) file (l .i)) ∙ l .inv .3 (l .i) (omega arith) (l .inv .0);
+      most = l .inv .1;
+    }
+
+with-symbol-requires : tie.Need-with-symbol-requires Inv-loop μ-loop
+with-symbol-requires c κs = search needs
+
+add-i : tie.Need-add-i Inv-loop μ-loop
+add-i c = search needs
+
+loop-less : tie.Need-loop-less Inv-loop μ-loop
+loop-less c = search needs
+
+loop-again : tie.Need-loop-again Inv-loop μ-loop
+loop-again c =
+    let a = c .before .before .before .before .before .before .before .args in
+    let l = c .before .before .before .before .before .loop in
+    let file = a .file .now in
+    let x = getD file (l .i) 0 in
+    let s = symbol x in
+    let e : c .with-symbol .result ≡ addSymbolTo (l .h) s = c .with-symbol .ensures ∙ ap (addSymbolTo (l .h)) (c .before .before .symbol .ensures) in (
+      omega arith,
+      rw e (omega (arith, symbol-count (l .h) s)),
+      run-next (l .inv .2) (byte-known x (c .before .before .symbol .result) (c .before .before .symbol .ensures) (known (c .before .before .symbol .result) (c .before .match .keys2))),
+      λ j h k. ap (λ (g : Groups). bytesFrom g (slice (l .i + 1) j file)) e ∙ sym (bytes-next (l .h) file (l .i) j (omega arith) (omega arith)) ∙ l .inv .3 j (omega arith) k,
+    )
+
+returns-2 : tie.Need-returns-2 Inv-loop μ-loop
+returns-2 c =
+    let a = c .before .before .before .args in
+    let l = c .before .loop in
+    let file = a .file .now in
+    record {
+      run = run-stop (l .inv .2) (l .inv .0) (λ h. absurd (omega arith));
+      added = sym (bytes-end (l .h) file (l .i)) ∙ l .inv .3 (l .i) (omega arith) (l .inv .0);
+      most = l .inv .1;
+    }
+
+pub text-symbols-spec : {M : Type 1} → statement M
+text-symbols-spec =
+    tie.close
+    (tie.spec
+    Inv-loop
+    μ-loop
+    loop-holds
+    shared-slice-read-symbol
+    symbol-requires
+    enum-told
+    returns
+    with-symbol-requires
+    add-i
+    loop-less
+    loop-again
+    returns-2)

@@ -1,0 +1,113 @@
+-- `cbf_reader::judge::judge_headers` meets its contract. The loop's invariant: the values are those of the headers before at, and judging the
+-- headers from at on with these gives what judging all of them does. Assumes nothing.
+use Prim.Native.Nat.{_-_, _<_}
+use native.Mathlib.Omega.{arith}
+use lib.ListN.{length}
+use denote.Ref.{now}
+use borrow.Author.Needs.{needs}
+use Rattle.cbf_reader.specs.Found.{foundOf}
+use Rattle.cbf_reader.specs.HeaderPlaces.{HeadersHere, HeaderParts}
+use Rattle.cbf_reader.proofs.JudgeLaws.{Judging, headers-inside, number-range, judging-none, judging-all, judging-unknown, judging-repeated, judging-bad, judging-number}
+use Rattle.cbf_reader.proofs.judge.judge_headers.Statement.{statement}
+use Rattle.cbf_reader.proofs.judge.judge_headers.Tie as tie
+
+abbrev Inv-loop : tie.InvT-loop
+Inv-loop file from empty values₀ at₀ values at = Judging file from empty at values
+
+abbrev μ-loop : tie.MeasureT-loop
+μ-loop file from empty values₀ at₀ values at = empty - at
+
+-- the headers that are left
+headers-at : (c : tie.In-loop Inv-loop μ-loop) → HeadersHere (now (c .before .before .before .args .file)) (c .before .loop .at) (c .before .before .before .args .empty)
+headers-at c = c .before .loop .inv .left (c .before .before .before .pre) .on
+
+-- the parts of the first of them
+parts-at : (c : tie.After-header-parts Inv-loop μ-loop) → HeaderParts (now (c .before .before .before .before .args .file)) (c .before .before .loop .at) (c .before .before .before .before .args .empty) (headers-at (c .before)) (c .header-parts .result)
+parts-at c = c .header-parts .ensures (headers-at (c .before))
+
+inside : (c : tie.In-loop Inv-loop μ-loop) → c .before .before .before .args .empty < length (now (c .before .before .before .args .file))
+inside c = headers-inside (headers-at c)
+
+loop-holds : tie.Need-loop-holds Inv-loop μ-loop
+unfolding foundOf
+loop-holds c = judging-none (now (c .before .args .file)) (c .before .args .from) (c .before .args .empty)
+
+header-parts-requires : tie.Need-header-parts-requires Inv-loop μ-loop
+header-parts-requires c κs = (headers-at c, c .loop-test .taken)
+
+known-requires : tie.Need-known-requires Inv-loop μ-loop
+known-requires c κs = (parts-at c .name-in, omega (arith, parts-at c .value-in, parts-at c .to-in, parts-at c .next-in, inside (c .before)))
+
+mul-if2 : tie.Need-mul-if2 Inv-loop μ-loop
+mul-if2 c = search needs
+
+array-read-if2 : tie.Need-array-read-if2 Inv-loop μ-loop
+array-read-if2 c = search needs
+
+returns : tie.Need-returns Inv-loop μ-loop
+returns c = (judging-repeated (c .before .before .before .before .before .loop .inv) (c .before .before .before .header-parts .ensures) (c .before .before .known .ensures) (c .before .if1 .taken) (c .if2 .taken), c .before .before .before .before .before .loop .inv .range)
+
+add-known-value : tie.Need-add-known-value Inv-loop μ-loop
+add-known-value c = omega (arith, parts-at (c .before .before .before) .value-in, parts-at (c .before .before .before) .to-in, parts-at (c .before .before .before) .next-in, inside (c .before .before .before .before))
+
+known-value-requires : tie.Need-known-value-requires Inv-loop μ-loop
+known-value-requires c κs = let p = parts-at (c .before .before .before) in (p .value-in, omega (arith, p .to-in, p .next-in, inside (c .before .before .before .before)), c .before .if1 .taken)
+
+enum-told : tie.Need-enum-told Inv-loop μ-loop
+enum-told c = search needs
+
+returns-2 : tie.Need-returns-2 Inv-loop μ-loop
+returns-2 c = (judging-bad (c .before .before .before .before .before .before .before .before .loop .inv) (c .before .before .before .before .before .before .header-parts .ensures) (c .before .before .before .before .before .known .ensures) (c .before .before .before .before .if1 .taken) (c .before .before .before .if2 .left) (c .before .before .known-value .ensures .0) (c .enum-told .given .1), c .before .before .before .before .before .before .before .before .loop .inv .range)
+
+enum-known-v : tie.Need-enum-known-v Inv-loop μ-loop
+enum-known-v c = search needs
+
+add-values : tie.Need-add-values Inv-loop μ-loop
+add-values c = omega (arith, number-range (c .before .before .before .before .before .before .known .result) (c .before .v .given .1) (c .before .before .before .known-value .ensures .1) .0)
+
+mul-values : tie.Need-mul-values Inv-loop μ-loop
+mul-values c = search needs
+
+array-write-values : tie.Need-array-write-values Inv-loop μ-loop
+array-write-values c = search needs
+
+loop-less : tie.Need-loop-less Inv-loop μ-loop
+loop-less c = let p = parts-at (c .before .before .before .before .before .before .before) in omega (arith, p .name-in, p .value-in, p .to-in, c .before .before .before .before .before .before .before .before .loop-test .taken)
+
+loop-again : tie.Need-loop-again Inv-loop μ-loop
+loop-again c = judging-number (c .before .before .before .before .before .before .before .before .before .loop .inv) (c .before .before .before .before .before .before .before .header-parts .ensures) (c .before .before .before .before .before .before .known .ensures) (c .before .before .before .before .before .if1 .taken) (c .before .before .before .before .if2 .left) (c .before .before .before .known-value .ensures .0) (c .before .v .given .1) (c .before .before .before .known-value .ensures .1)
+
+loop-less-2 : tie.Need-loop-less-2 Inv-loop μ-loop
+loop-less-2 c = let p = parts-at (c .before .before) in omega (arith, p .name-in, p .value-in, p .to-in, c .before .before .before .loop-test .taken)
+
+loop-again-2 : tie.Need-loop-again-2 Inv-loop μ-loop
+loop-again-2 c = judging-unknown (c .before .before .before .before .loop .inv) (c .before .before .header-parts .ensures) (c .before .known .ensures) (c .if1 .left)
+
+returns-3 : tie.Need-returns-3 Inv-loop μ-loop
+returns-3 c = (judging-all (c .before .before .before .args .empty) (c .before .loop .inv) (c .loop-test .left), c .before .loop .inv .range)
+
+pub judge-headers-spec : {M : Type 1} → statement M
+judge-headers-spec =
+    tie.close
+    (tie.spec
+    Inv-loop
+    μ-loop
+    loop-holds
+    header-parts-requires
+    known-requires
+    mul-if2
+    array-read-if2
+    returns
+    add-known-value
+    known-value-requires
+    enum-told
+    returns-2
+    enum-known-v
+    add-values
+    mul-values
+    array-write-values
+    loop-less
+    loop-again
+    loop-less-2
+    loop-again-2
+    returns-3)

@@ -1,0 +1,114 @@
+-- `section_headers::section_headers` meets its contract. Assumes nothing.
+use borrow.Author.Needs.{needs}
+use mathlib.Core.Path.{_≡_, sym, ap, _∙_}
+use lib.ListN.{drop}
+use denote.Ref.{now}
+use Rattle.cbf_format.specs.Sections.{fileLimit}
+use Rattle.cbf_format.specs.Descriptions.{headers}
+use Rattle.cbf_reader.specs.HeaderPlaces.{headersReadAt}
+use Rattle.cbf_reader.proofs.HeaderLaws.{Headed, headed}
+use Rattle.cbf_reader.proofs.SectionHeaderLaws.{readAs, headers-refused, headers-cut, headers-here, section-refused, section-found}
+use Rattle.cbf_reader.proofs.section_headers.section_headers.Statement.{statement}
+use Rattle.cbf_reader.proofs.section_headers.section_headers.Tie as tie
+
+header-end-requires : tie.Need-header-end-requires
+header-end-requires c κs = search needs
+
+enum-known-end : tie.Need-enum-known-end
+enum-known-end c = search needs
+
+enum-told : tie.Need-enum-told
+enum-told c = search needs
+
+enum-known-end-2 : tie.Need-enum-known-end-2
+enum-known-end-2 c = search needs
+
+-- the lines up to the empty line
+lines :
+    (c : tie.After-known-told2)
+    → let a = c .before .before .before .before .before .args in
+    let g = c .before .end2 .given in
+    Headed (now (a .file)) (a .at) (a .limit) fileLimit (g .0 .0) (g .0 .1 .0)
+lines c =
+    let a = c .before .before .before .before .before .args in
+    let g = c .before .end2 .given in
+    headed (now (a .file)) (a .at) (a .limit) fileLimit (g .0 .0) (g .0 .1 .0) (sym (g .1) ∙ c .before .before .before .header-end .ensures)
+
+judge-headers-requires : tie.Need-judge-headers-requires
+judge-headers-requires c κs = let a = c .before .before .before .before .before .args in headers-here (now (a .file)) (a .at) (a .limit) fileLimit (lines c)
+
+returns : tie.Need-returns
+returns c =
+    let a = c .before .before .before .before .before .before .before .args in
+    let j = c .before .judge-headers in
+    section-refused (now (a .file)) (a .at) (a .limit) fileLimit (lines (c .before .before)) (j .result) (j .ensures .0) (c .if1 .taken)
+
+-- what the values say
+said :
+    (c : tie.After-describe)
+    → let a = c .before .before .before .before .before .before .before .before .before .args in
+    let g = c .before .before .before .before .before .end2 .given in
+    readAs (g .0 .0) (g .0 .1 .0) (c .describe .result) ≡ headersReadAt (a .at) (headers (a .limit) fileLimit (drop (a .at) (now (a .file))))
+said c =
+    let a = c .before .before .before .before .before .before .before .before .before .args in
+    let j = c .before .before .before .judge-headers in
+    section-found (now (a .file)) (a .at) (a .limit) fileLimit (lines (c .before .before .before .before)) (j .result) (j .ensures .0)
+    (c .before .before .if1 .left) (c .describe .result) (c .describe .ensures)
+
+describe-requires : tie.Need-describe-requires
+describe-requires c κs = search needs
+
+enum-told-2 : tie.Need-enum-told-2
+enum-told-2 c = search needs
+
+enum-told-3 : tie.Need-enum-told-3
+enum-told-3 c = search needs
+
+enum-known-described : tie.Need-enum-known-described
+enum-known-described c = search needs
+
+returns-2 : tie.Need-returns-2
+returns-2 c =
+    let a = c .before .before .before .before .before .args in
+    let g = c .before .end .given in
+    headers-refused (now (a .file)) (a .at) (a .limit) fileLimit (g .0 .0) (sym (g .1) ∙ c .before .before .before .header-end .ensures)
+
+returns-3 : tie.Need-returns-3
+returns-3 c =
+    let a = c .before .before .before .before .args in
+    headers-cut (now (a .file)) (a .at) (a .limit) fileLimit (sym (c .enum-told .given .1) ∙ c .before .before .header-end .ensures)
+
+returns-4 : tie.Need-returns-4
+returns-4 c =
+    let g = c .before .before .before .before .before .before .before .end2 .given in
+    ap (readAs (g .0 .0) (g .0 .1 .0)) (sym (c .enum-told2 .given .1)) ∙ said (c .before .before)
+
+returns-5 : tie.Need-returns-5
+returns-5 c =
+    let g = c .before .before .before .before .before .before .before .end2 .given in
+    ap (readAs (g .0 .0) (g .0 .1 .0)) (sym (c .enum-told3 .given .1)) ∙ said (c .before .before)
+
+returns-6 : tie.Need-returns-6
+returns-6 c =
+    let g = c .before .before .before .before .before .before .before .before .end2 .given in
+    ap (readAs (g .0 .0) (g .0 .1 .0)) (sym (c .before .described .given .1)) ∙ said (c .before .before .before)
+
+pub section-headers-spec : {M : Type 1} → statement M
+section-headers-spec =
+    tie.close
+    (tie.spec
+    header-end-requires
+    enum-known-end
+    enum-told
+    enum-known-end-2
+    judge-headers-requires
+    returns
+    describe-requires
+    enum-told-2
+    enum-told-3
+    enum-known-described
+    returns-2
+    returns-3
+    returns-4
+    returns-5
+    returns-6)

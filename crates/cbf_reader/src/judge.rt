@@ -1,0 +1,60 @@
+// The values of the known headers, over the headers in file order.
+use crate::header;
+use crate::header_parts;
+use crate::known_value;
+use crate::value::Whole;
+ghost use mathlib.Core.List.{[]};
+ghost use Rattle.cbf_format.specs.Headers.{group};
+ghost use Rattle.cbf_format.specs.Descriptions.{judge as judgeOf};
+ghost use Rattle.cbf_reader.specs.Found.{InRange};
+ghost use Rattle.cbf_reader.specs.HeaderPlaces.{HeadersHere, judgedAt};
+
+// Whether a header is refused, since it is repeated or has a bad value, and its place; else the values, each one more than it is, or 0
+// where there is none.
+pub struct Judged {
+    pub refused: bool,
+    pub place: usize,
+    pub values: [u64; 10],
+}
+
+pub fn judge_headers(file: &[u8], from: usize, empty: usize) -> Judged
+    requires { ⌜ HeadersHere (now file) from empty ⌝ }
+    ensures { λ r. ⌜ ((h : HeadersHere (now (file .entry)) from empty) → judgedAt (h .at) r (judgeOf (group (h .lines) .headers) [])) × InRange (r .values) ⌝ }
+{
+    let mut values: [u64; 10] = [0; 10];
+    let mut at = from;
+    while at < empty {
+        let parts = header_parts::header_parts(file, at, empty);
+        let colon = parts.colon;
+        let to = parts.to;
+        let k = header::known(file, at, colon);
+        if k < 10 {
+            if values[k] != 0 {
+                return Judged {
+                    refused: true,
+                    place: at,
+                    values: values,
+                };
+            }
+            let v = known_value::known_value(file, k, colon + 1, to);
+            match v {
+                Whole::Bad => {
+                    return Judged {
+                        refused: true,
+                        place: at,
+                        values: values,
+                    };
+                }
+                Whole::Number(n) => {
+                    values[k] = n + 1;
+                }
+            }
+        }
+        at = parts.next;
+    }
+    Judged {
+        refused: false,
+        place: empty,
+        values: values,
+    }
+}
