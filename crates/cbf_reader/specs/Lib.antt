@@ -1,5 +1,6 @@
 -- What the contracts of the functions say: the definitions of cbf_format at places of the file.
 pub mod Places
+pub mod Classes
 pub mod Values
 pub mod Found
 pub mod HeaderPlaces

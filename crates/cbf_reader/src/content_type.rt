@@ -1,6 +1,8 @@
 // The value of Content-Type: parts that end at `;` outside quotes, of which one may name the compression.
 use crate::header;
 use crate::header::Inner;
+use crate::text;
+use crate::text::Class;
 use crate::value;
 use crate::value::Whole;
 use cbf_format::Conversion;
@@ -20,14 +22,7 @@ fn equals(file: &[u8], from: usize, to: usize) -> usize
     requires { ⌜ (from ≤ to) × (to ≤ length (now file)) ⌝ }
     ensures { λ r. ⌜ Run notEquals (now (file .entry)) from to r ⌝ }
 {
-    let mut i = from;
-    while i < to {
-        if file[i] == 61 {
-            return i;
-        }
-        i += 1;
-    }
-    i
+    text::after(file, from, to, Class::NotEquals)
 }
 
 // Whether the text is the name of byte offset, quoted or not.
@@ -35,10 +30,10 @@ fn is_byte_offset(file: &[u8], from: usize, to: usize) -> bool
     requires { ⌜ (from ≤ to) × (to ≤ length (now file)) ⌝ }
     ensures { λ r. ⌜ r ≡ someOf (quotedOneOf 1 (bytes "x-cbf_byte_offset" ∷ []) (unquote (trim (joined (slice from to (now (file .entry))))))) ⌝ }
 {
-    let text = value::trimmed(file, from, to);
-    let text_from = text.from;
-    let text_to = text.to;
-    let inner = header::unquoted(file, text_from, text_to);
+    let inside = value::trimmed(file, from, to);
+    let inside_from = inside.from;
+    let inside_to = inside.to;
+    let inner = header::unquoted(file, inside_from, inside_to);
     match inner {
         Inner::Bad => false,
         Inner::Text(a, b) => value::is_value(file, a, b, b"x-cbf_byte_offset"),

@@ -4,6 +4,7 @@ ghost use Prim.Native.Nat.{_≤_};
 ghost use lib.ListN.{length};
 ghost use lib.Seq.{slice};
 ghost use Rattle.cbf_reader.specs.Places.{Run};
+ghost use Rattle.cbf_reader.specs.Classes.{inClass};
 ghost use Rattle.cbf_format.specs.Text.{blank as blankByte, blanks, textual as textualByte, lower as lowerOf, letter as letterByte, lowers, same};
 ghost use Rattle.cbf_format.specs.Headers.{nameByte};
 
@@ -117,19 +118,48 @@ pub fn is_blank_text(file: &[u8], from: usize, to: usize) -> bool
     true
 }
 
-// The first place from `from` on that is `to` or holds no blank.
-pub fn after_blanks(file: &[u8], from: usize, to: usize) -> usize
+// What a scan passes over.
+pub enum Class {
+    Blank,
+    Name,
+    Textual,
+    NotEquals,
+    NotBlank,
+}
+
+fn in_class(class: Class, b: u8) -> bool
+    ensures { λ r. ⌜ r ≡ inClass class b ⌝ }
+{
+    match class {
+        Class::Blank => blank(b),
+        Class::Name => name_byte(b),
+        Class::Textual => textual(b),
+        Class::NotEquals => b != 61,
+        Class::NotBlank => !blank(b),
+    }
+}
+
+// The first place from `from` on that is `to` or holds no byte of the class.
+pub fn after(file: &[u8], from: usize, to: usize, class: Class) -> usize
     requires { ⌜ (from ≤ to) × (to ≤ length (now file)) ⌝ }
-    ensures { λ r. ⌜ Run blankByte (now (file .entry)) from to r ⌝ }
+    ensures { λ r. ⌜ Run (inClass class) (now (file .entry)) from to r ⌝ }
 {
     let mut i = from;
     while i < to {
-        if !blank(file[i]) {
+        if !in_class(class, file[i]) {
             return i;
         }
         i += 1;
     }
     i
+}
+
+// The first place from `from` on that is `to` or holds no blank.
+pub fn after_blanks(file: &[u8], from: usize, to: usize) -> usize
+    requires { ⌜ (from ≤ to) × (to ≤ length (now file)) ⌝ }
+    ensures { λ r. ⌜ Run blankByte (now (file .entry)) from to r ⌝ }
+{
+    after(file, from, to, Class::Blank)
 }
 
 // The first place from `from` on that is `to` or holds no byte of a header's name.
@@ -137,14 +167,7 @@ pub fn after_name(file: &[u8], from: usize, to: usize) -> usize
     requires { ⌜ (from ≤ to) × (to ≤ length (now file)) ⌝ }
     ensures { λ r. ⌜ Run nameByte (now (file .entry)) from to r ⌝ }
 {
-    let mut i = from;
-    while i < to {
-        if !name_byte(file[i]) {
-            return i;
-        }
-        i += 1;
-    }
-    i
+    after(file, from, to, Class::Name)
 }
 
 // The first place from `from` on that is `to` or holds no text byte.
@@ -152,12 +175,5 @@ pub fn after_text(file: &[u8], from: usize, to: usize) -> usize
     requires { ⌜ (from ≤ to) × (to ≤ length (now file)) ⌝ }
     ensures { λ r. ⌜ Run textualByte (now (file .entry)) from to r ⌝ }
 {
-    let mut i = from;
-    while i < to {
-        if !textual(file[i]) {
-            return i;
-        }
-        i += 1;
-    }
-    i
+    after(file, from, to, Class::Textual)
 }

@@ -3,29 +3,29 @@ use mathlib.Core.Path.{sym, _∙_}
 use Prim.Native.Nat.{_-_, _≤_}
 use native.Mathlib.Omega.{arith}
 use borrow.Author.Needs.{needs}
-use Rattle.cbf_format.specs.Headers.{nameByte}
 use Rattle.cbf_reader.specs.Places.{Run}
+use Rattle.cbf_reader.specs.Classes.{inClass}
 use Rattle.cbf_reader.proofs.Texts.{run-start, run-next, run-stop}
-use Rattle.cbf_reader.proofs.text.after_name.Statement.{statement}
-use Rattle.cbf_reader.proofs.text.after_name.Tie as tie
+use Rattle.cbf_reader.proofs.text.after.Statement.{statement}
+use Rattle.cbf_reader.proofs.text.after.Tie as tie
 
 abbrev Inv-loop : tie.InvT-loop
-Inv-loop file from to i₀ i = (i ≤ to) × Run nameByte file from i i
+Inv-loop file from to class i₀ i = (i ≤ to) × Run (inClass class) file from i i
 
 abbrev μ-loop : tie.MeasureT-loop
-μ-loop file from to i₀ i = to - i
+μ-loop file from to class i₀ i = to - i
 
 loop-holds : tie.Need-loop-holds Inv-loop μ-loop
 loop-holds c = (omega arith, run-start (c .before .args .from))
 
-shared-slice-read-name-byte : tie.Need-shared-slice-read-name-byte Inv-loop μ-loop
-shared-slice-read-name-byte c = omega arith
+shared-slice-read-in-class : tie.Need-shared-slice-read-in-class Inv-loop μ-loop
+shared-slice-read-in-class c = omega arith
 
-name-byte-requires : tie.Need-name-byte-requires Inv-loop μ-loop
-name-byte-requires c κs = search needs
+in-class-requires : tie.Need-in-class-requires Inv-loop μ-loop
+in-class-requires c κs = search needs
 
 returns : tie.Need-returns Inv-loop μ-loop
-returns c = run-stop (c .before .before .before .before .loop .inv .1) (omega arith) (λ h. sym (c .before .name-byte .ensures) ∙ not-true _ (c .if1 .taken))
+returns c = run-stop (c .before .before .before .before .loop .inv .1) (omega arith) (λ h. sym (c .before .in-class .ensures) ∙ not-true _ (c .if1 .taken))
 
 add-i : tie.Need-add-i Inv-loop μ-loop
 add-i c = omega arith
@@ -34,20 +34,20 @@ loop-less : tie.Need-loop-less Inv-loop μ-loop
 loop-less c = omega arith
 
 loop-again : tie.Need-loop-again Inv-loop μ-loop
-loop-again c = (omega arith, run-next (c .before .before .before .before .loop .inv .1) (sym (c .before .name-byte .ensures) ∙ not-false _ (c .if1 .left)))
+loop-again c = (omega arith, run-next (c .before .before .before .before .loop .inv .1) (sym (c .before .in-class .ensures) ∙ not-false _ (c .if1 .left)))
 
 returns-2 : tie.Need-returns-2 Inv-loop μ-loop
 returns-2 c = run-stop (c .before .loop .inv .1) (omega arith) (λ h. absurd (omega arith))
 
-pub after-name-spec : {M : Type 1} → statement M
-after-name-spec =
+pub after-spec : {M : Type 1} → statement M
+after-spec =
     tie.close
     (tie.spec
     Inv-loop
     μ-loop
     loop-holds
-    shared-slice-read-name-byte
-    name-byte-requires
+    shared-slice-read-in-class
+    in-class-requires
     returns
     add-i
     loop-less
