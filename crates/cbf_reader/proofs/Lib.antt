@@ -16,3 +16,4 @@ pub mod ClosingLaws
 pub mod GroupLaws
 pub mod Base64Laws
 pub mod DataLaws
+pub mod StepLaws

@@ -7,3 +7,4 @@ pub mod HeaderPlaces
 pub mod Groups
 pub mod Base64Places
 pub mod DataPlaces
+pub mod StepPlaces

@@ -13,5 +13,6 @@ mod judge;
 mod known_value;
 mod line;
 mod section_headers;
+mod step;
 mod text;
 mod value;

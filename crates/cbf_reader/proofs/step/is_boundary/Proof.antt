@@ -1,0 +1,37 @@
+use mathlib.Core.Path.{sym, ap, _∙_}
+use mathlib.Core.Bool.{Bool, _&&_}
+use lib.Seq.{slice}
+use denote.Ref.{now}
+use Rattle.cbf_format.specs.Text.{same}
+use Rattle.cbf_format.specs.Sections.{opening}
+use Rattle.cbf_reader.proofs.StepLaws.{is-opened, not-opened}
+use borrow.Author.Needs.{needs}
+use Rattle.cbf_reader.proofs.step.is_boundary.Statement.{statement}
+use Rattle.cbf_reader.proofs.step.is_boundary.Tie as tie
+
+enum-known-field : tie.Need-enum-known-field
+enum-known-field c = search needs
+
+slice-aggregate-is-word : tie.Need-slice-aggregate-is-word
+slice-aggregate-is-word c = search needs
+
+is-word-requires : tie.Need-is-word-requires
+is-word-requires c κs = search needs
+
+returns : tie.Need-returns
+returns c f e =
+    let a = c .before .before .before .before .before .before .args in
+    let v = c .before .before .before .field .given in
+    let s = same (slice (a .at) (a .to) (now (a .file))) opening in
+    c .is-word .ensures ∙ ap (λ (b : Bool). b && s) (is-opened (a .at) (v .0 .0) f (sym (v .1) ∙ e))
+
+returns-2 : tie.Need-returns-2
+returns-2 c f e =
+    let a = c .before .before .args in
+    let s = same (slice (a .at) (a .to) (now (a .file))) opening in
+    ap (λ (b : Bool). b && s) (not-opened (a .at) (a .field) (c .match .keys2) f e)
+
+pub is-boundary-spec : {M : Type 1} → statement M
+is-boundary-spec =
+    tie.close
+    (tie.spec enum-known-field slice-aggregate-is-word is-word-requires returns returns-2)
