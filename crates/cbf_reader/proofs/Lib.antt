@@ -17,3 +17,6 @@ pub mod GroupLaws
 pub mod Base64Laws
 pub mod DataLaws
 pub mod StepLaws
+pub mod SectionCounts
+pub mod WalkLaws
+pub mod CountLaws

@@ -8,3 +8,5 @@ pub mod Groups
 pub mod Base64Places
 pub mod DataPlaces
 pub mod StepPlaces
+pub mod WalkPlaces
+pub mod Counts

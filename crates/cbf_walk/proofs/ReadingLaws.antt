@@ -8,7 +8,7 @@ use native.Mathlib.Omega.{arith}
 use lib.ListN.{length, take, drop, getD, length-append, length-drop, take-append-drop, drop-of-length-le}
 use lib.Seq.{length-take-le, drop-at, take-at, drop-cons, drop-drop, take-add}
 use Rattle.cbf_walk.specs.Parsers.{Res, bad, cut, ok, Parser, hd, Tame, Moves}
-use Rattle.cbf_walk.specs.Reading.{Item, Reading, refused, good, cons, flat, late, broke, turn, readF, Good}
+use Rattle.cbf_walk.specs.Reading.{Item, Reading, refused, good, cons, flat, late, broke, turn, readF, Good, onto, itemAt, from as fromOf, Reached as ReachedOf}
 use Rattle.cbf_walk.proofs.ParserLaws.{hd-app}
 
 pub refused≢good : {A : Type 0} {k p : ℕ} {l : List A} → refused k p ≡ good l → ⊥
@@ -152,11 +152,6 @@ module _ {St Info : Type 0} (ended : ℕ) (step : St → Parser (Option Info × 
 
 -- ---- what a loop that reads needs: the whole file s, a place `at` in it, and a bound f that is never met
 
--- items, then what reading on gave
-unfoldable pub onto : {A : Type 0} → List A → Reading A → Reading A
-onto [] r = r
-onto (a ∷ l) r = cons a (onto l r)
-
 module _ {A : Type 0} where
   pub onto-more : (l : List A) (a : A) (r : Reading A) → onto l (cons a r) ≡ onto (l ++ (a ∷ [])) r
   unfolding onto
@@ -173,20 +168,12 @@ module _ {A : Type 0} where
   onto-end [] = refl
   onto-end (b ∷ l) = ap (cons b) (onto-end l)
 
--- the item of a step that took n bytes at `at`
-abbrev pub itemAt : {St Info : Type 0} → List ℕ → ℕ → Option Info × St → ℕ → Item St Info
-itemAt s at o n = record { bytes = take n (drop at s); info = o .0; next = o .1 }
-
 module _ {St Info : Type 0} (ended : ℕ) (step : St → Parser (Option Info × St)) (due : St → Option ℕ) (f : ℕ) (s : List ℕ) where
-  -- what reading on from `at` gives
-  abbrev pub from : ℕ → St → Reading (Item St Info)
-  from at st = readF ended step due f at st (drop at s)
+  abbrev from : ℕ → St → Reading (Item St Info)
+  from at st = fromOf ended step due f s at st
 
-  -- from the state st₀ at 0, reading has come to the state st at `at`, and has read the items `done`
-  pub record Reached (st₀ : St) (done : List (Item St Info)) (at : ℕ) (st : St) : Type 0 where
-    pub so-far : readF ended step due f 0 st₀ s ≡ onto done (from at st)
-    pub behind : flat done ≡ take at s
-    pub inside : at ≤ length s
+  abbrev Reached : St → List (Item St Info) → ℕ → St → Type 0
+  Reached st₀ done at st = ReachedOf ended step due f s st₀ done at st
 
   pub reached-start : (st₀ : St) → Reached st₀ [] 0 st₀
   unfolding flat onto

@@ -2,7 +2,7 @@
 use mathlib.Core.Path.{_≡_}
 use mathlib.Core.Option.{Option, none, some}
 use mathlib.Core.List.{List, [], _∷_, _++_}
-use Prim.Native.Nat.{ℕ, zero, suc, _+_, _-_, _<_}
+use Prim.Native.Nat.{ℕ, zero, suc, _+_, _-_, _<_, _≤_}
 use lib.ListN.{length, take, drop}
 use Rattle.cbf_walk.specs.Parsers.{Res, bad, cut, ok, Parser}
 
@@ -58,3 +58,25 @@ unfoldable pub Good : {St Info : Type 0} → (St → Parser (Option Info × St))
 Good step due st [] = due st ≡ none
 Good step due st (it ∷ its) =
     (step st (it .bytes ++ flat its) ≡ ok (it .info, it .next) (length (it .bytes))) × (0 < length (it .bytes)) × Good step due (it .next) its
+
+-- ---- a loop that reads: the whole file s, a place `at` in it, and a bound f that is never met
+
+-- items, then what reading on gave
+unfoldable pub onto : {A : Type 0} → List A → Reading A → Reading A
+onto [] r = r
+onto (a ∷ l) r = cons a (onto l r)
+
+-- the item of a step that took n bytes at `at`
+abbrev pub itemAt : {St Info : Type 0} → List ℕ → ℕ → Option Info × St → ℕ → Item St Info
+itemAt s at o n = record { bytes = take n (drop at s); info = o .0; next = o .1 }
+
+module _ {St Info : Type 0} (ended : ℕ) (step : St → Parser (Option Info × St)) (due : St → Option ℕ) (f : ℕ) (s : List ℕ) where
+  -- what reading on from `at` gives
+  abbrev pub from : ℕ → St → Reading (Item St Info)
+  from at st = readF ended step due f at st (drop at s)
+
+  -- from the state st₀ at 0, reading has come to the state st at `at`, and has read the items `done`
+  pub record Reached (st₀ : St) (done : List (Item St Info)) (at : ℕ) (st : St) : Type 0 where
+    pub so-far : readF ended step due f 0 st₀ s ≡ onto done (from at st)
+    pub behind : flat done ≡ take at s
+    pub inside : at ≤ length s
