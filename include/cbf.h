@@ -1,4 +1,4 @@
-/* Mooringelm: the pixels of Crystallographic Binary Files, for C and whatever calls C.
+/* Mooringelm: Crystallographic Binary Files and their pixels, for C and whatever calls C.
  *
  * Link with libcbf_capi.a (`rt staticlib cbf_capi` writes it). Every function is proved to answer every input as stated
  * here, and to touch no other memory than what it is lent.
@@ -47,6 +47,11 @@ uint64_t cbf_pack(uint8_t element_type, const int64_t *pixels, size_t count, uin
  * that run out or remain, or a pixel that leaves its type; 15 for too little room. */
 uint64_t cbf_unpack_octets(uint8_t element_type, uint8_t compression, const uint8_t *octets, size_t octets_len,
                            size_t count, int64_t *pixels, size_t room);
+
+/* Writes the listing of a file: a line for each section with its number, position, size, elements, compression, type and
+ * data block. The answer is the number of bytes, at most 92,672. A file is read whole before anything is written.
+ * Refusals: 1 to 11 for what is wrong in the file, with its place; 15 at 0 for too little room. */
+uint64_t cbf_listing(const uint8_t *file, size_t file_len, uint8_t *out, size_t room);
 
 #ifdef __cplusplus
 }

@@ -17,6 +17,7 @@ extern "C" {
         pixels: *mut i64,
         room: usize,
     ) -> u64;
+    fn cbf_listing(file: *const u8, file_len: usize, out: *mut u8, room: usize) -> u64;
 }
 
 /// The length of the answer, or a refusal's number and place.
@@ -61,4 +62,9 @@ pub fn unpack_octets(
             pixels.len(),
         )
     })
+}
+
+pub fn listing(file: &[u8], out: &mut [u8]) -> Answer {
+    // Sound: both slices are valid for their lengths, and `out` is borrowed alone.
+    answer(unsafe { cbf_listing(file.as_ptr(), file.len(), out.as_mut_ptr(), out.len()) })
 }

@@ -66,7 +66,8 @@ fn check_unpack(
     }
 }
 
-fn differ(what: String) -> ! {
+/// Tells of the first difference, and ends the run.
+pub fn differ(what: String) -> ! {
     println!("DIFFERENT: {what}");
     std::process::exit(1)
 }

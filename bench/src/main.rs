@@ -3,11 +3,19 @@
 //! bench               compare, then measure; exit status 1 at the first difference or where a bar is not met
 //! bench compare       compare only
 //! bench run WHO WHAT FRAME TYPE TIMES    one call, that many times: what valgrind counts
+//! bench run WHO FILE TIMES               one reading of a large file, that many times
 
 mod cbf;
 mod compare;
+mod compare_files;
+mod damage;
+mod files;
 mod frames;
+mod large;
+mod measure_files;
+mod reader;
 mod reference;
+mod vectors;
 
 use std::process::Command;
 use std::time::Instant;
@@ -119,6 +127,14 @@ fn measure() -> bool {
     met
 }
 
+fn compare() {
+    println!("bench: {} calls compared, no difference", compare::all());
+    println!(
+        "bench: {} calls on files compared, no difference",
+        compare_files::all()
+    );
+}
+
 fn main() {
     let words: Vec<String> = std::env::args().skip(1).collect();
     let words: Vec<&str> = words.iter().map(String::as_str).collect();
@@ -132,15 +148,19 @@ fn main() {
                 times.parse().expect("a number"),
             );
         }
-        ["compare"] => println!("bench: {} calls compared, no difference", compare::all()),
+        ["run", who, file, times] => {
+            measure_files::run(who, file, times.parse().expect("a number"));
+        }
+        ["compare"] => compare(),
         [] => {
-            println!("bench: {} calls compared, no difference", compare::all());
-            if !measure() {
+            compare();
+            let met = measure();
+            if !measure_files::measure() || !met {
                 std::process::exit(1);
             }
         }
         _ => {
-            println!("usage: bench [compare | run WHO WHAT FRAME TYPE TIMES]");
+            println!("usage: bench [compare | run WHO WHAT FRAME TYPE TIMES | run WHO FILE TIMES]");
             std::process::exit(2);
         }
     }

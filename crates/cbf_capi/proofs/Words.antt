@@ -3,7 +3,7 @@ use Prim.Native.Nat.{ℕ, _+_, _*_, _/_, _%_, _^_, _<_, _≤_}
 use native.Mathlib.Omega.{arith}
 use mathlib.Core.Path.{_≡_, refl, ap, ap₂, _∙_}
 use mathlib.Core.List.{List}
-use mathlib.Core.Bool.{Bool, true, false}
+use mathlib.Core.Bool.{Bool, true, false, cond}
 use lib.Dec.{leb}
 use lib.ListN.{length}
 use lib.IntN.{ℤ}
@@ -17,6 +17,15 @@ use Rattle.cbf_capi.specs.declared.Compressed.the-variants as C
 use Rattle.cbf_pixels.specs.Octets.{pick}
 use Rattle.cbf_pixels.specs.Pixels.{least, greatest, allWithin, packByteOffset}
 use Rattle.cbf_pixels.specs.Answers.{Outcome, gives, refuses, isSome, pixelLimit, octetLimit, written, packOutcome, packOutput, unpackPixels, unpackOutcome, unpackOutput}
+use Rattle.cbf_walk.specs.Reading.{Item, Reading, good}
+use Rattle.cbf_walk.specs.Reading as R
+use Rattle.cbf_format.specs.Lines.{lineLimit}
+use Rattle.cbf_format.specs.Sections.{Section}
+use Rattle.cbf_format.specs.Files.{State, read}
+use Rattle.cbf_format.specs.Listing.{listing}
+use Rattle.cbf_format.proofs.PlaceLaws.{read-place, read-limit}
+use Rattle.cbf_format.proofs.ListingLaws.{listing-short}
+use Rattle.cbf_listing.specs.Outcomes.{roomFor, listOutcome}
 use Rattle.cbf_capi.specs.Words.{packCall, unpackCall, unpackedBy, word}
 
 -- document 01's number, 0 for none, and the place or the length
@@ -65,6 +74,19 @@ unpack-halves c t n os room =
     tested (isSome (unpackPixels c t n os)) _ 13 (omega arith) (λ b.
     tested (leb n room) _ 15 (omega arith) (λ d.
     given n pixelLimit (omega arith) a)))
+
+-- the refusals of reading have small numbers and places of the file, and a listing is short
+pub list-halves : (file : List ℕ) (room : ℕ) → Halves (listOutcome (read lineLimit file) room)
+unfolding listOutcome roomFor
+list-halves file room = go (read lineLimit file) refl
+  where
+    fitting : (n : ℕ) (b : Bool) → n < 2 ^ 32 → Halves (cond b (gives n) (refuses 15 0))
+    fitting n true h = halves (gives n) (omega arith) h
+    fitting n false h = refused 15 (omega arith)
+
+    go : (r : Reading (Item State Section)) → read lineLimit file ≡ r → Halves (listOutcome r room)
+    go (R.refused k p) e = let h = read-place lineLimit file k p e in halves (refuses k p) (omega (arith, h .1)) (omega (arith, read-limit lineLimit file k p e))
+    go (good its) e = fitting (length (listing (good its))) (leb (length (listing (good its))) room) (omega (arith, listing-short lineLimit file its e))
 
 -- ---- what the calls answer, for the numbers of a type and of a compression
 

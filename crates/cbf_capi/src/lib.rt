@@ -1,5 +1,6 @@
 // The library for C, and whatever calls C: include/cbf.h says what a caller owes. Each function returns a word: the upper
 // 32 bits are the refusal number, 0 for none; the lower 32 the place of a refusal, or the length of the answer.
+use cbf_format::LINE_LIMIT;
 use cbf_pixels::Answer;
 use cbf_pixels::Compression;
 use cbf_pixels::ElementType;
@@ -8,6 +9,10 @@ ghost use Prim.Native.Nat.{_<_, _^_};
 ghost use lib.ListN.{length};
 ghost use Rattle.cbf_pixels.specs.Pixels.{packByteOffset};
 ghost use Rattle.cbf_pixels.specs.Answers.{refuses, outcome, written};
+ghost use Rattle.cbf_format.specs.Lines.{lineLimit};
+ghost use Rattle.cbf_format.specs.Files.{read};
+ghost use Rattle.cbf_format.specs.Listing.{listing};
+ghost use Rattle.cbf_listing.specs.Outcomes.{listOutcome};
 ghost use Rattle.cbf_capi.specs.Words.{element, compressed, packCall, unpackCall, unpackedBy, word};
 
 pub enum Element {
@@ -97,4 +102,13 @@ pub extern "C" fn cbf_unpack_octets(
             Compressed::Known(by) => word_of(cbf_pixels::unpack(by, kind, octets, count, pixels)),
         },
     }
+}
+
+// Writes the listing of a file.
+#[no_mangle]
+pub extern "C" fn cbf_listing(file: &[u8], out: &mut [u8]) -> u64
+    ensures answer { λ r. ⌜ r ≡ word (listOutcome (read lineLimit (now (file .entry))) (length (now (out .entry)))) ⌝ }
+    ensures output { λ _. ⌜ now (out .exit) ≡ written (listOutcome (read lineLimit (now (file .entry))) (length (now (out .entry)))) (listing (read lineLimit (now (file .entry)))) (now (out .entry)) ⌝ }
+{
+    word_of(cbf_listing::list(file, LINE_LIMIT, out))
 }

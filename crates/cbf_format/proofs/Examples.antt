@@ -15,7 +15,7 @@ use Rattle.cbf_format.specs.Descriptions.{judge, verdict, headers}
 use Rattle.cbf_format.specs.Base64.{symbol, letters, decode}
 use Rattle.cbf_format.specs.Sections.{opening, Section, lastBoundary, afterSpan, closed, binaryData, base64Data, section}
 use Rattle.cbf_format.specs.Files.{State, opened, read, step, due, identified}
-use Rattle.cbf_format.specs.Listing.{Placed, position, sections, digitsOf, sectionLine, sectionLines, listing}
+use Rattle.cbf_format.specs.Listing.{Placed, position, sections, digitsOf, sectionText, sectionLines, listing}
 
 -- the 401-byte file of document 01
 unfoldable pub sample : List ℕ
@@ -45,7 +45,7 @@ unfolding sample read readF step due textLine lineEnd octets word semicolonLine 
 sample-places = refl
 
 pub sample-listed : listing (read 80 sample) ≡ bytes "1 359 4 2 byte_offset s32 a\n"
-unfolding sample read readF step due textLine lineEnd octets word semicolonLine headerLine headerLines judge verdict headers lastBoundary afterSpan closed binaryData section identified number listing sections sectionLines sectionLine digitsOf
+unfolding sample read readF step due textLine lineEnd octets word semicolonLine headerLine headerLines judge verdict headers lastBoundary afterSpan closed binaryData section identified number listing sections sectionLines sectionText digitsOf
 sample-listed = refl
 
 pub sample-cut : read 80 (take 370 sample) ≡ refused 9 363

@@ -4,3 +4,5 @@ pub mod SectionTame
 pub mod SectionLaws
 pub mod FileLaws
 pub mod Examples
+pub mod ListingLaws
+pub mod PlaceLaws

@@ -136,7 +136,7 @@ pub record Ends (boundary s : List ℕ) (at : ℕ) (l : Letters) (n : ℕ) : Typ
   pub sum : before + last ≡ n
   pub is-line : line (drop before s) ≡ ok boundary last
 
-unonward : {A : Type 0} (p : Parser A) (s : List ℕ) (a : A) (n : ℕ) → onward p s ≡ ok a n → p s ≡ ok a n
+pub unonward : {A : Type 0} (p : Parser A) (s : List ℕ) (a : A) (n : ℕ) → onward p s ≡ ok a n → p s ≡ ok a n
 unonward p [] a n e = absurd (cut≢ok e)
 unonward p (x ∷ s) a n e = e
 

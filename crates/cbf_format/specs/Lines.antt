@@ -8,6 +8,10 @@ use lib.ListN.{length, take, drop}
 use Rattle.cbf_walk.specs.Parsers.{Res, bad, cut, ok, Parser, hd, bind, counted, screen}
 use Rattle.cbf_format.specs.Text.{blanks, textual, same}
 
+-- "Text line: at most 80 characters, line end not counted"
+abbrev pub lineLimit : ℕ
+lineLimit = 80
+
 -- "A line ends with 13 10, 13 alone, 10 alone, or the file's end": how long a line end is that begins with 13
 abbrev pub endLength : Option ℕ → ℕ
 endLength none = 1

@@ -28,6 +28,13 @@ unfoldable pub sections : ℕ → Tree → List Placed
 sections at [] = []
 sections at (it ∷ its) = addPlaced at (it .info) (sections (at + length (it .bytes)) its)
 
+-- the section with a number, "0 or above the count" has none: 12
+unfoldable pub numbered : ℕ → List Placed → Option Placed
+numbered zero ps = none
+numbered (suc n) [] = none
+numbered (suc zero) (p ∷ ps) = some p
+numbered (suc (suc n)) (p ∷ ps) = numbered (suc n) ps
+
 -- the position of the first octet (BASE64: the byte after the empty line)
 abbrev pub position : Placed → ℕ
 position p = p .boundary + p .section .first
@@ -39,8 +46,9 @@ unfoldable pub digitsOf : ℕ → ℕ → List ℕ
 digitsOf zero n = []
 digitsOf (suc f) n = let r = digitsOf f (n / 10) in cond (ltb n 10) ((48 + n) ∷ []) (r ++ ((48 + n % 10) ∷ []))
 
+-- a number of 64 bits has at most 20 digits
 abbrev pub printed : ℕ → List ℕ
-printed n = digitsOf 10 n
+printed n = digitsOf 20 n
 
 abbrev pub compressionName : Compression → List ℕ
 compressionName Uncompressed = bytes "none"
@@ -63,13 +71,15 @@ abbrev pub spaced : List ℕ → List ℕ → List ℕ
 spaced t r = t ++ (32 ∷ r)
 
 -- "section number, then .. position, size, elements, `none` or `byte_offset`, type, and the whole block name, single spaces between"
-unfoldable pub sectionLine : ℕ → Placed → List ℕ
+unfoldable pub sectionText : ℕ → ℕ → ℕ → ℕ → Compression → ElementType → List ℕ → List ℕ
+sectionText number at size elements compression type name =
+    spaced (printed number)
+    (spaced (printed at)
+    (spaced (printed size) (spaced (printed elements) (spaced (compressionName compression) (typeName type ++ (named name ++ (10 ∷ [])))))))
+
+abbrev pub sectionLine : ℕ → Placed → List ℕ
 sectionLine n p =
-    let d = p .section .description in
-    spaced (printed n)
-    (spaced (printed (position p))
-    (spaced (printed (d .size))
-    (spaced (printed (d .elements)) (spaced (compressionName (d .compression)) (typeName (d .type) ++ (named (p .section .block) ++ (10 ∷ [])))))))
+    let d = p .section .description in sectionText n (position p) (d .size) (d .elements) (d .compression) (d .type) (p .section .block)
 
 unfoldable pub sectionLines : ℕ → List Placed → List ℕ
 sectionLines n [] = []

@@ -1,5 +1,8 @@
 // The file format: document 01's rules as definitions (specs/), their laws (proofs/), and the types that contracts speak of.
 
+// "Text line: at most 80 characters, line end not counted." The calls for users take this limit; what reads takes it as a parameter.
+pub const LINE_LIMIT: usize = 80;
+
 // What a byte of BASE64 text is: a letter with its six-bit number, the pad `=`, a blank, or none of these.
 pub enum Symbol {
     Letter(u8),

@@ -1,10 +1,10 @@
 -- The check of BASE64 text against what the text decodes to. Assumes nothing.
-use mathlib.Core.Path.{_≡_, refl, sym, ap, _∙_}
+use mathlib.Core.Path.{_≡_, refl, sym, ap, _∙_, subst}
 use mathlib.Core.Option.{Option, none, some}
 use mathlib.Core.Bool.{Bool, true, false, _&&_, cond}
 use mathlib.Core.List.{List, [], _∷_, _++_}
 use mathlib.Core.Logic.{_⊎_, ⊎-elim, inl, inr}
-use Prim.Native.Nat.{ℕ, suc, _+_, _*_, _-_, _/_, _%_, _<_, _≤_}
+use Prim.Native.Nat.{ℕ, zero, suc, _+_, _*_, _-_, _/_, _%_, _<_, _≤_}
 use native.Mathlib.Omega.{arith}
 use lib.Dec.{eqb, leb}
 use native.Mathlib.Numerals.{add-one}
@@ -17,7 +17,10 @@ use Rattle.cbf_format.specs.declared.Symbol.the-variants.{Letter, Pad, Blank, O
 use Rattle.cbf_format.specs.Text.{blank}
 use Rattle.cbf_format.specs.Base64.{symbol, addSymbol, addSymbols, addOctets, lastGroup, isEmpty, decode, sized}
 use Rattle.cbf_reader.specs.declared.base64.Groups.{Groups}
-use Rattle.cbf_reader.specs.Groups.{addSymbolTo, groupsFrom, groupsOf, bytesFrom, unusedZero, groupsHold}
+use Rattle.cbf_reader.specs.declared.text.Class.the-variants.{Base64Letter}
+use Rattle.cbf_reader.specs.Places.{Run}
+use Rattle.cbf_reader.specs.Classes.{isLetter, inClass}
+use Rattle.cbf_reader.specs.Groups.{addSymbolTo, addLettersTo, groupsFrom, groupsOf, bytesFrom, unusedZero, groupsHold, symbolic}
 
 -- ---- one symbol more
 
@@ -292,6 +295,64 @@ symbol-count g (Letter n) = omega arith
 symbol-count g Pad = omega arith
 symbol-count g Blank = omega arith
 symbol-count g Other = omega arith
+
+-- ---- letters one after another: the last one's number counts
+
+letter-number : (s : Symbol) → isLetter s ≡ true → (n : ℕ) × (s ≡ Letter n)
+letter-number (Letter n) h = (n, refl)
+letter-number Pad h = let z : _≡_ {A = ℕ} 0 1 = cc in absurd (omega arith)
+letter-number Blank h = let z : _≡_ {A = ℕ} 0 1 = cc in absurd (omega arith)
+letter-number Other h = let z : _≡_ {A = ℕ} 0 1 = cc in absurd (omega arith)
+
+broken-twice : (t b : Bool) → cond t (cond t b true) true ≡ cond t b true
+broken-twice true b = refl
+broken-twice false b = refl
+
+one-letter : (g : Groups) (s : Symbol) → isLetter s ≡ true → addLettersTo g 1 s ≡ addSymbolTo g s
+one-letter g s h = rw (letter-number s h .1)
+
+letter-more : (g : Groups) (n : ℕ) (s t : Symbol) → isLetter s ≡ true → isLetter t ≡ true → addLettersTo g (suc n) t ≡ addLettersTo (addSymbolTo g s) n t
+letter-more g n s t h k =
+    let e : g .letters + suc n ≡ g .letters + 1 + n = omega arith in
+    rw (letter-number s h .1, letter-number t k .1) (cc (e, broken-twice (eqb (g .pads) 0) (g .broken)))
+
+pub letters-count : (g : Groups) (n : ℕ) (s : Symbol) → isLetter s ≡ true → addLettersTo g n s .letters + addLettersTo g n s .pads ≡ g .letters + n + g .pads
+letters-count g n s h = rw (letter-number s h .1)
+
+-- the bytes of a text up to m are letters
+module _ {file : List ℕ} {from m : ℕ} (run : Run (inClass Base64Letter) file from m m) where
+  pub run-symbolic : Run symbolic file from m m
+  unfolding symbolic
+  run-symbolic = record {
+    low = run .low;
+    high = run .high;
+    each = λ j h k. rw (letter-number (symbol (getD file j 0)) (run .each j h k) .1);
+    stops = λ h. absurd (omega arith);
+  }
+
+  -- the letters are added at once, in front of the rest of the text
+  pub letters-run : (g : Groups) (to : ℕ) → from < m → m ≤ to → to ≤ length file
+      → bytesFrom (addLettersTo g (m - from) (symbol (getD file (m - 1) 0))) (slice m to file) ≡ bytesFrom g (slice from to file)
+  letters-run g to h k l =
+      let e : suc (m - 1 - from) ≡ m - from = omega arith in
+      subst (λ (n : ℕ). bytesFrom (addLettersTo g n last) (slice m to file) ≡ bytesFrom g (slice from to file)) e
+      (go (m - 1 - from) g from (omega arith) (omega arith))
+    where
+      last : Symbol
+      last = symbol (getD file (m - 1) 0)
+
+      go : (n : ℕ) (g : Groups) (i : ℕ) → from ≤ i → i + suc n ≡ m → bytesFrom (addLettersTo g (suc n) last) (slice m to file) ≡ bytesFrom g (slice i to file)
+      go zero g i h e =
+          let p : m - 1 ≡ i = omega arith in
+          ap (λ (f : Groups). bytesFrom f (slice m to file)) (one-letter g last (run .each (m - 1) (omega arith) (omega arith)))
+          ∙ ap (λ (j : ℕ). bytesFrom (addSymbolTo g (symbol (getD file j 0))) (slice m to file)) p
+          ∙ ap (λ (j : ℕ). bytesFrom (addSymbolTo g (symbol (getD file i 0))) (slice j to file)) (sym e)
+          ∙ sym (bytes-next g file i to (omega arith) l)
+      go (suc n) g i h e =
+          let s = symbol (getD file i 0) in
+          ap (λ (f : Groups). bytesFrom f (slice m to file)) (letter-more g (suc n) s last (run .each i h (omega arith)) (run .each (m - 1) (omega arith) (omega arith)))
+          ∙ go n (addSymbolTo g s) (i + 1) (omega arith) (omega arith)
+          ∙ sym (bytes-next g file i to (omega arith) l)
 
 -- ---- the letters of a text are below 64
 

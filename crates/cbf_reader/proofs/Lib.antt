@@ -19,4 +19,4 @@ pub mod DataLaws
 pub mod StepLaws
 pub mod SectionCounts
 pub mod WalkLaws
-pub mod CountLaws
+pub mod SurveyLaws

@@ -15,7 +15,9 @@ use Rattle.cbf_format.specs.Values.{quotedOneOf, unquote, parts, addToPart, new
 use Rattle.cbf_format.specs.declared.Conversion.{Conversion}
 use Rattle.cbf_format.specs.declared.Conversion.the-variants.{Unseen, Seen, Wrong}
 use Rattle.cbf_reader.specs.Places.{Run}
-use Rattle.cbf_reader.specs.Values.{Within, in-text, after-13, in-blanks, joinedFrom, joined, blankOrEnd, partThen, laterParts, notEquals, someOf, endByte}
+use Rattle.cbf_reader.specs.declared.text.Class.the-variants.{Not}
+use Rattle.cbf_reader.specs.Classes.{inClass}
+use Rattle.cbf_reader.specs.Values.{Within, in-text, after-13, in-blanks, joinedFrom, joined, blankOrEnd, partThen, laterParts, someOf, endByte}
 use Rattle.cbf_reader.proofs.ValueLaws.{Adds, itself, a-space, nothing, step, not-end, not-blank, differs, joined-byte, after-return, blanks-over, joined-empty}
 
 -- ---- where joining splits
@@ -205,17 +207,17 @@ free-adds y e itself h = free-byte y h
 free-adds y e a-space h = free-byte 32 refl
 free-adds y e nothing h = record { before-free = λ l. refl; after-free = λ l. refl }
 
-other-equals : (y : ℕ) → notEquals y ≡ true → eqb 61 y ≡ false
-other-equals y h = ne-eqb 61 y (λ e. let z : _≡_ {A = Bool} false true = ap notEquals e ∙ h in let w : _≡_ {A = ℕ} 0 1 = cc in omega arith)
+other-equals : (y : ℕ) → inClass (Not 61) y ≡ true → eqb 61 y ≡ false
+other-equals y h = ne-eqb 61 y (λ e. let z : _≡_ {A = Bool} false true = ap (inClass (Not 61)) e ∙ h in let w : _≡_ {A = ℕ} 0 1 = cc in omega arith)
 
-meets : (y : ℕ) → notEquals y ≡ false → y ≡ 61
+meets : (y : ℕ) → inClass (Not 61) y ≡ false → y ≡ 61
 meets y h = go (eqb y 61) refl
   where
     go : (b : Bool) → eqb y 61 ≡ b → y ≡ 61
     go true e = eqb-true y 61 e
     go false e = let z : _≡_ {A = Bool} true false = ap not (sym e) ∙ h in let w : _≡_ {A = ℕ} 0 1 = cc in absurd (omega arith)
 
-free-run : (file : List ℕ) (from n : ℕ) → from + n ≤ length file → ((j : ℕ) → from ≤ j → j < from + n → notEquals (getD file j 0) ≡ true) → Free (joined (slice from (from + n) file))
+free-run : (file : List ℕ) (from n : ℕ) → from + n ≤ length file → ((j : ℕ) → from ≤ j → j < from + n → inClass (Not 61) (getD file j 0) ≡ true) → Free (joined (slice from (from + n) file))
 free-run file from zero fits each =
     let z : from ≡ from + 0 = omega arith in
     subst Free (sym (joined-empty file from (from + 0) z)) (record { before-free = λ l. refl; after-free = λ l. refl })
@@ -243,7 +245,7 @@ one-word w t v e = go (same w (lowers t)) ∙ ap (λ (u : Option (List ℕ)). so
     go true = refl
     go false = refl
 
-module _ (file : List ℕ) (from to m : ℕ) (fits : to ≤ length file) (run : Run notEquals file from to m) where
+module _ (file : List ℕ) (from to m : ℕ) (fits : to ≤ length file) (run : Run (inClass (Not 61)) file from to m) where
   free : Free (joined (slice from m file))
   free =
       let l = run .low in

@@ -16,9 +16,11 @@ use Rattle.cbf_format.specs.Text.{blank, textual, trim}
 use Rattle.cbf_format.specs.Lines.{endLength, lineOr, line, refusedByte}
 use Rattle.cbf_format.specs.Headers.{nameByte, addName, splitColon, malformed, orMalformed, continues, group}
 use Rattle.cbf_reader.specs.Places.{Run, endFrom}
+use Rattle.cbf_reader.specs.declared.text.Class.the-variants.{Not}
+use Rattle.cbf_reader.specs.Classes.{inClass}
 use Rattle.cbf_reader.specs.Values.{joined}
 use Rattle.cbf_reader.specs.HeaderPlaces.{LineHere, LinesHere, Fresh, HeadersHere, HeaderParts}
-use Rattle.cbf_reader.proofs.Texts.{getD-slice, slice-take}
+use Rattle.cbf_reader.proofs.Texts.{name-no-colon, getD-slice, slice-take}
 use Rattle.cbf_reader.proofs.LineLaws.{line-good}
 use Rattle.cbf_reader.proofs.HeaderLaws.{lines-low, lines-end, lines-none, LineLeft, lines-some, here-formed}
 use Rattle.cbf_reader.proofs.Grouping.{Continued, alone, continued-more, texts, header-lies, header-name, Formed, fresh-text, colon-split}
@@ -206,30 +208,34 @@ module _ (file : List ℕ) (p empty : ℕ) (t : List ℕ) (n : ℕ) (s : Stands 
       ∙ ap (endFrom (p + length t)) (sym (drop-drop (length t) p file))
       ∙ sym (line-ended .ends p)
 
-  -- where the name ends
-  module _ (nv : List ℕ × List ℕ) (e : splitColon t ≡ some nv) (r : ℕ) (run : Run nameByte file p empty r) where
+  -- where the name ends: at the first colon
+  module _ (nv : List ℕ × List ℕ) (e : splitColon t ≡ some nv) (r : ℕ) (run : Run (inClass (Not 58)) file p empty r) where
+    name-byte : (j : ℕ) → p ≤ j → j < p + length (nv .0) → nameByte (getD file j 0) ≡ true
+    name-byte j h l = let g = named t nv e in ap nameByte (line-byte j h (omega (arith, g .short))) ∙ g .each (j - p) (omega arith)
+
+    colon-byte : getD file (p + length (nv .0)) 0 ≡ 58
+    colon-byte =
+        let g = named t nv e in
+        let k : p + length (nv .0) - p ≡ length (nv .0) = omega arith in
+        line-byte (p + length (nv .0)) (omega arith) (omega (arith, g .short)) ∙ ap (λ (i : ℕ). getD t i 0) k ∙ g .colon
+
     name-ends : (r ≡ p + length (nv .0)) × (r < p + length t)
     name-ends =
         let g = named t nv e in
         let d = line-ended in
-        let k : p + length (nv .0) - p ≡ length (nv .0) = omega arith in
-        let c : getD file (p + length (nv .0)) 0 ≡ 58 =
-        line-byte (p + length (nv .0)) (omega arith) (omega (arith, g .short)) ∙ ap (λ (i : ℕ). getD t i 0) k ∙ g .colon in
         let q : r ≡ p + length (nv .0) =
         run-ends run (p + length (nv .0)) (omega arith) (omega (arith, g .short, d .short, s .inside))
-        (λ j h l. ap nameByte (line-byte j h (omega (arith, g .short))) ∙ g .each (j - p) (omega arith)) (ap nameByte c) in
+        (λ j h l. name-no-colon (getD file j 0) (name-byte j h l)) (ap (inClass (Not 58)) colon-byte) in
         (q, omega (arith, g .short))
 
     name-splits : splitColon t ≡ some (slice p r file, slice (r + 1) (p + length t) file)
     name-splits =
-        let g = named t nv e in
         let w = name-ends in
-        let k : r - p ≡ length (nv .0) = omega (arith, w .0) in
-        let c : getD file r 0 ≡ 58 = line-byte r (run .low) (w .1) ∙ ap (λ (i : ℕ). getD t i 0) k ∙ g .colon in
+        let c : getD file r 0 ≡ 58 = ap (λ (i : ℕ). getD file i 0) (w .0) ∙ colon-byte in
         let d = line-ended in
         ap splitColon (sym line-text)
         ∙ colon-split file (p + length t) (omega (arith, d .short, s .inside, s .before)) r (w .1) c p
-        (record { low = run .low; high = omega (arith, w .1); each = run .each; stops = λ h. ap nameByte c })
+        (record { low = run .low; high = omega (arith, w .1); each = λ j h l. name-byte j h (omega (arith, w .0)); stops = λ h. ap nameByte c })
 
 -- ---- the walk over a header's lines
 
@@ -267,8 +273,8 @@ module _ (file : List ℕ) (from empty : ℕ) (h : HeadersHere file from empty) 
       omega (arith, v .0, v .1, h .is-empty)
 
   module _ (colon to next : ℕ) where
-    pub walk-first : from < empty → Run nameByte file from empty colon → Run textual file colon empty to → next ≡ endFrom to (drop to file) → Walked file from empty h colon to next
-    walk-first lt name-run text-run e = go (lines-some file (h .at) (h .limit) (h .e) (h .after) (h .first) (h .m) (h .lines) (h .here) (omega (arith, h .is-from, h .is-empty)))
+    pub walk-first : from < empty → Run (inClass (Not 58)) file from empty colon → Run textual file colon empty to → next ≡ endFrom to (drop to file) → Walked file from empty h colon to next
+    walk-first lt colon-run text-run e = go (lines-some file (h .at) (h .limit) (h .e) (h .after) (h .first) (h .m) (h .lines) (h .here) (omega (arith, h .is-from, h .is-empty)))
       where
         go : LineLeft file (h .at) (h .limit) (h .e) (h .after) (h .first) (h .m) (h .lines) → Walked file from empty h colon to next
         go l =
@@ -277,8 +283,8 @@ module _ (file : List ℕ) (from empty : ℕ) (h : HeadersHere file from empty) 
             let s = stands file (h .at) (h .limit) (h .e) (h .after) (h .first) (h .m) (l .this) (l .others) (l .here) (l .on) from empty (h .is-from) (h .is-empty) in
             let plain : continues t ≡ false = subst (λ (ls : List (ℕ × List ℕ)). Fresh ls) (l .all) (h .fresh) in
             let nv = has-name (h .first) t (l .here .some-text) (here-formed file (h .at) (h .limit) (h .first) (h .m) (l .this) (l .here)) plain in
-            let c = name-ends file from empty t n s (nv .0) (nv .1) colon name-run in
-            let a : to ≡ from + length t = text-ends file from empty t n s colon to (name-run .low) (omega (arith, c .1)) text-run in
+            let c = name-ends file from empty t n s (nv .0) (nv .1) colon colon-run in
+            let a : to ≡ from + length t = text-ends file from empty t n s colon to (colon-run .low) (omega (arith, c .1)) text-run in
             let b : next ≡ from + n = line-ends file from empty t n s to next a e in
             let d = line-ended file from empty t n s in
             let x : length t ≡ to - from = omega arith in
@@ -291,10 +297,10 @@ module _ (file : List ℕ) (from empty : ℕ) (h : HeadersHere file from empty) 
               rest = l .others;
               all = l .all ∙ ap (λ (i : ℕ). (i, t) ∷ l .others) (l .here .place);
               plain = plain;
-              splits = name-splits file from empty t n s (nv .0) (nv .1) colon name-run;
+              splits = name-splits file from empty t n s (nv .0) (nv .1) colon colon-run;
               lies = subst (λ (k : ℕ × ℕ). Continued (drop from file) t [] (k .0) (k .1)) (λ i. (x i, y i)) (alone (s .reads));
               here = subst (λ (k : ℕ). LinesHere file (h .at) (h .limit) (h .e) (h .after) false k (l .others)) z (l .on);
-              low = name-run .low;
+              low = colon-run .low;
               short = omega (arith, c .1);
               order = omega (arith, d .short);
               high = omega (arith, s .inside);

@@ -1,12 +1,12 @@
--- The number of sections of items, and that the state counts them. Assumes nothing.
-use mathlib.Core.Path.{_≡_, refl, ap, _∙_}
+-- The sections of items, and that the state counts them. Assumes nothing.
+use mathlib.Core.Path.{_≡_, refl, sym, ap, _∙_}
 use mathlib.Core.Option.{Option, none, some}
-use mathlib.Core.List.{List, [], _∷_, _++_}
+use mathlib.Core.List.{List, [], _∷_, _++_, append-assoc, append-nil}
 use Prim.Native.Nat.{ℕ, suc, _+_}
 use native.Mathlib.Omega.{arith}
-use lib.ListN.{length}
+use lib.ListN.{length, length-append}
 use Rattle.cbf_walk.specs.Parsers.{ok}
-use Rattle.cbf_walk.specs.Reading.{Item}
+use Rattle.cbf_walk.specs.Reading.{Item, flat}
 use Rattle.cbf_format.specs.Sections as S
 use Rattle.cbf_format.specs.Files as F
 use Rattle.cbf_format.specs.Listing.{Placed, addPlaced, sections}
@@ -22,15 +22,41 @@ length-sections (it ∷ its) at at′ = go (it .info) (sections (at + length (it
     go none l l′ e = e
     go (some i) l l′ e = ap suc e
 
-pub length-sections-append : (a b : F.Tree) (at at′ : ℕ) → length (sections at (a ++ b)) ≡ length (sections at a) + length (sections at′ b)
-unfolding sections
-length-sections-append [] b at at′ = omega (arith, length-sections b at at′)
-length-sections-append (it ∷ a) b at at′ = go (it .info) (sections (at + length (it .bytes)) (a ++ b)) (sections (at + length (it .bytes)) a) (length-sections-append a b (at + length (it .bytes)) at′)
+-- the sections of items, and those of the items after them
+pub sections-append : (a b : F.Tree) (at : ℕ) → sections at (a ++ b) ≡ sections at a ++ sections (at + length (flat a)) b
+unfolding sections flat
+sections-append [] b at = let e : at ≡ at + 0 = omega arith in ap (λ (z : ℕ). sections z b) e
+sections-append (it ∷ a) b at =
+    let e : (at + length (it .bytes)) + length (flat a) ≡ at + length (it .bytes ++ flat a) = omega (arith, length-append (it .bytes) (flat a)) in
+    ap (addPlaced at (it .info)) (sections-append a b (at + length (it .bytes)) ∙ ap (λ (z : ℕ). sections (at + length (it .bytes)) a ++ sections z b) e)
+    ∙ go (it .info) (sections (at + length (it .bytes)) a) (sections (at + length (it .bytes ++ flat a)) b)
   where
-    go : (o : Option S.Section) (l m : List Placed) → length l ≡ length m + length (sections at′ b)
-        → length (addPlaced at o l) ≡ length (addPlaced at o m) + length (sections at′ b)
-    go none l m e = e
-    go (some i) l m e = omega (arith, e)
+    go : (o : Option S.Section) (l m : List Placed) → addPlaced at o (l ++ m) ≡ addPlaced at o l ++ m
+    go none l m = refl
+    go (some i) l m = refl
+
+pub length-sections-append : (a b : F.Tree) (at at′ : ℕ) → length (sections at (a ++ b)) ≡ length (sections at a) + length (sections at′ b)
+length-sections-append a b at at′ =
+    ap length (sections-append a b at) ∙ omega (arith, length-append (sections at a) (sections (at + length (flat a)) b), length-sections b (at + length (flat a)) at′)
+
+-- items without a section
+no-placed : (l : List Placed) → length l ≡ 0 → l ≡ []
+no-placed [] h = refl
+no-placed (p ∷ l) h = absurd (omega arith)
+
+pub sections-lines : (done its : F.Tree) → sections 0 its ≡ [] → sections 0 (done ++ its) ≡ sections 0 done
+sections-lines done its e =
+    let at = 0 + length (flat done) in
+    let n : length (sections at its) ≡ 0 = length-sections its at 0 ∙ ap length e in
+    sections-append done its 0 ∙ ap (λ (z : List Placed). sections 0 done ++ z) (no-placed (sections at its) n) ∙ append-nil (sections 0 done)
+
+-- and a section after them
+pub sections-found : (done its : F.Tree) (it : Item F.State S.Section) (i : S.Section) → sections 0 its ≡ [] → it .info ≡ some i
+    → sections 0 (done ++ (its ++ (it ∷ []))) ≡ sections 0 done ++ (record { boundary = length (flat (done ++ its)); section = i } ∷ [])
+unfolding sections
+sections-found done its it i e h =
+    let from-0 : 0 + length (flat (done ++ its)) ≡ length (flat (done ++ its)) = omega arith in
+    ap (sections 0) (sym (append-assoc done its (it ∷ []))) ∙ sections-append (done ++ its) (it ∷ []) 0 ∙ rw (from-0, h, sections-lines done its e)
 
 -- the state counts the sections
 pub counted-on : (limit : ℕ) (st : F.State) (s : List ℕ) (done : F.Tree) (it : Item F.State S.Section) (n : ℕ)

@@ -1,16 +1,20 @@
 -- Texts from one place of the file up to another: tests of one byte, runs of bytes that pass a test, and comparison with a word. Assumes nothing.
 use mathlib.Core.Path.{_≡_, refl, sym, ap, _∙_, subst}
-use mathlib.Core.Bool.{Bool, true, false, _&&_, _||_, cond, and-false}
+use mathlib.Core.Bool.{Bool, true, false, not, _&&_, _||_, cond, and-false, and-true, true≢false}
+use mathlib.Core.Logic.{_⊎_, ⊎-elim}
 use mathlib.Core.List.{List, [], _∷_}
 use Prim.Native.Nat.{ℕ, zero, suc, _+_, _-_, _≤_, _<_}
 use native.Mathlib.Omega.{arith}
 use native.Mathlib.Numerals.{add-one}
-use borrow.Author.Tests.{le-leb, eq-eqb, ne-eqb, leb-true, leb-false}
-use lib.Dec.{leb, eqb}
+use borrow.Author.Tests.{lt-ltb, le-ltb, le-leb, lt-leb, eq-eqb, ne-eqb, leb-true, leb-false, eqb-true, eqb-false}
+use lib.Dec.{leb, ltb, eqb}
 use lib.ListN.{length, take, drop, getD, drop-of-length-le}
 use lib.Seq.{take-add, drop-at, length-take-le, slice, slice-empty, slice-cons, length-slice, drop-cons, getD-drop, getD-take}
-use Rattle.cbf_format.specs.Text.{blank, blanks, letter, lower, lowers, same, skip}
+use Rattle.cbf_format.specs.Text.{blank, blanks, textual, letter, lower, lowers, same, skip}
+use Rattle.cbf_format.specs.Headers.{nameByte}
+use Rattle.cbf_format.specs.Base64.{symbol}
 use Rattle.cbf_reader.specs.Places.{Run}
+use Rattle.cbf_reader.specs.Classes.{plainByte, isLetter}
 
 -- ---- one byte
 
@@ -24,6 +28,77 @@ letter-lower b l e = go (leb 65 b) (leb b 90) refl refl ∙ ap (λ (z : ℕ). le
     go true false p q = refl
     go false t p q = refl
 
+-- whether a byte is a text byte, by its range
+module _ (b : ℕ) where
+  pub plain-textual : plainByte b ≡ true → textual b ≡ true
+  plain-textual e = go (eqb b 9)
+    where
+      go : (t : Bool) → (t || plainByte b) ≡ true
+      go true = refl
+      go false = e
+
+  pub text-between : 32 ≤ b → b ≤ 126 → textual b ≡ true
+  text-between h l = plain-textual (rw (le-leb 32 b h, le-leb b 126 l))
+
+  pub text-under : b < 32 → (b ≡ 9 → ⊥) → textual b ≡ false
+  text-under h n = rw (ne-eqb b 9 n, lt-leb 32 b h)
+
+  pub text-over : 126 < b → textual b ≡ false
+  text-over h = rw (ne-eqb b 9 (omega arith), lt-leb b 126 h, and-false)
+
+-- whether a byte is one of a name, from the small letters on
+module _ (b : ℕ) (h : 97 ≤ b) where
+  pub small-letter : b ≤ 122 → nameByte b ≡ true
+  small-letter l = rw (le-leb 65 b (omega arith), lt-leb b 90 (omega arith), le-leb 97 b h, le-leb b 122 l)
+
+  pub past-letters : 122 < b → nameByte b ≡ false
+  past-letters l =
+      rw (le-leb 65 b (omega arith), lt-leb b 90 (omega arith), le-leb 97 b h, lt-leb b 122 l, le-leb 48 b (omega arith), lt-leb b 57 (omega arith), ne-eqb b 45 (omega arith))
+
+pub name-no-colon : (x : ℕ) → nameByte x ≡ true → not (eqb x 58) ≡ true
+name-no-colon x e = ap not (ne-eqb x 58 (λ q. true≢false (sym e ∙ ap nameByte q)))
+
+-- ---- a flag that is set where a byte is between two numbers
+
+abbrev pub between : ℕ → ℕ → ℕ → Bool
+between lo hi b = ltb lo b && ltb b hi
+
+pub flag-between : (lo hi b : ℕ) (flag : Bool) {next : Bool} {A B C : Type 0} → A ⊎ (B ⊎ C)
+    → (A → (lo < b) × (b < hi) × (next ≡ true)) → (B → (hi ≤ b) × (next ≡ flag)) → (C → (b ≤ lo) × (next ≡ flag)) → next ≡ (between lo hi b || flag)
+flag-between lo hi b flag came set over under =
+    ⊎-elim (λ x. let s = set x in rw (lt-ltb lo b (s .0), lt-ltb b hi (s .1)) (s .2))
+    (⊎-elim (λ x. let s = over x in rw (le-ltb b hi (s .0), and-false) (s .1)) (λ x. let s = under x in rw (le-ltb lo b (s .0)) (s .1))) came
+
+-- a test that all numbers below n pass
+abbrev every : (ℕ → Bool) → ℕ → Bool
+every test zero = true
+every test (suc n) = test n && every test n
+
+every-at : (test : ℕ → Bool) (n : ℕ) → every test n ≡ true → (b : ℕ) → b < n → test b ≡ true
+every-at test zero e b h = absurd (omega arith)
+every-at test (suc n) e b h = go (test n) (eqb b n) refl refl e (λ r l. every-at test n r b l)
+  where
+    go : (s t : Bool) → test n ≡ s → eqb b n ≡ t → (s && every test n) ≡ true → (every test n ≡ true → b < n → test b ≡ true) → test b ≡ true
+    go true true p q r rest = ap test (eqb-true b n q) ∙ p
+    go true false p q r rest = let d = eqb-false b n q in rest r (omega arith)
+    go false t p q r rest = absurd (true≢false (sym r))
+
+-- the gaps between the letters of BASE64
+abbrev noLetter : ℕ → Bool
+noLetter b = ltb 122 b || (between 90 97 b || (between 57 65 b || (between 43 47 b || ltb b 43)))
+
+abbrev equal : Bool → Bool → Bool
+equal s t = cond s t (not t)
+
+pub letter-gaps : (b : ℕ) → b < 256 → not (noLetter b) ≡ isLetter (symbol b)
+unfolding symbol
+letter-gaps b h = go (not (noLetter b)) (isLetter (symbol b)) (every-at (λ (x : ℕ). equal (not (noLetter x)) (isLetter (symbol x))) 256 refl b h)
+  where
+    go : (s t : Bool) → equal s t ≡ true → s ≡ t
+    go true t e = sym e
+    go false true e = e
+    go false false e = refl
+
 -- ---- runs
 
 module _ {test : ℕ → Bool} {file : List ℕ} where
@@ -31,17 +106,35 @@ module _ {test : ℕ → Bool} {file : List ℕ} where
   pub run-start : (at : ℕ) → Run test file at at at
   run-start at = record { low = omega arith; high = omega arith; each = λ j h k. absurd (omega arith); stops = λ h. absurd (omega arith) }
 
-  pub run-next : {from i : ℕ} → Run test file from i i → test (getD file i 0) ≡ true → Run test file from (i + 1) (i + 1)
-  run-next {from} {i} r e = record {
-    low = let l = r .low in omega arith;
-    high = omega arith;
-    each = λ j h k. go j h k (leb (suc j) i) refl;
-    stops = λ h. absurd (omega arith);
+  -- a run up to m, and on from there
+  pub run-then : {from m to r : ℕ} → Run test file from m m → Run test file m to r → Run test file from to r
+  run-then {from} {m} {to} {r} a b = record {
+    low = omega (arith, a .low, b .low);
+    high = b .high;
+    each = λ j h k. go j h k (leb (suc j) m) refl;
+    stops = b .stops;
   }
     where
-      go : (j : ℕ) → from ≤ j → j < i + 1 → (t : Bool) → leb (suc j) i ≡ t → test (getD file j 0) ≡ true
-      go j h k true p = r .each j h (leb-true (suc j) i p)
-      go j h k false p = let q : i ≡ j = omega (arith, leb-false (suc j) i p) in subst (λ (z : ℕ). test (getD file z 0) ≡ true) q e
+      go : (j : ℕ) → from ≤ j → j < r → (t : Bool) → leb (suc j) m ≡ t → test (getD file j 0) ≡ true
+      go j h k true p = a .each j h (leb-true (suc j) m p)
+      go j h k false p = b .each j (omega (arith, leb-false (suc j) m p)) k
+
+  pub run-next : {from i : ℕ} → Run test file from i i → test (getD file i 0) ≡ true → Run test file from (i + 1) (i + 1)
+  run-next {from} {i} r e =
+      run-then r
+      (record {
+        low = omega arith;
+        high = omega arith;
+        each = λ j h k. let q : i ≡ j = omega arith in subst (λ (z : ℕ). test (getD file z 0) ≡ true) q e;
+        stops = λ h. absurd (omega arith);
+      })
+
+  pub run-to : {from i : ℕ} → Run test file from i i → (k : ℕ) → i ≡ k → Run test file from k k
+  run-to {from} r k e = subst (λ (z : ℕ). Run test file from z z) e r
+
+  -- bytes that pass a test pass a weaker one
+  pub run-weaker : {other : ℕ → Bool} {from i : ℕ} → Run test file from i i → ((x : ℕ) → test x ≡ true → other x ≡ true) → Run other file from i i
+  run-weaker r w = record { low = r .low; high = r .high; each = λ j h k. w (getD file j 0) (r .each j h k); stops = λ h. absurd (omega arith) }
 
   pub run-stop : {from i to : ℕ} → Run test file from i i → i ≤ to → (i < to → test (getD file i 0) ≡ false) → Run test file from to i
   run-stop r h s = record { low = r .low; high = h; each = r .each; stops = s }
@@ -73,11 +166,16 @@ module _ (file : List ℕ) {from to r : ℕ} (run : Run blank file from to r) (f
       by-run (λ (j : ℕ). blanks (slice j to file) ≡ blanks (slice r to file)) run
       (λ j h k e ih. let hi = run .high in ap blanks (slice-cons j to file 0 (omega arith) fits) ∙ rw e ih) refl
 
-  pub blanks-not : r < to → false ≡ blanks (slice from to file)
-  blanks-not h = sym (blanks-run ∙ ap blanks (slice-cons r to file 0 h fits) ∙ rw (run .stops h))
-
-  pub blanks-all : to ≤ r → true ≡ blanks (slice from to file)
-  blanks-all h = let hi = run .high in let q : r ≡ to = omega arith in sym (blanks-run ∙ ap (λ (z : ℕ). blanks (slice z to file)) q ∙ ap blanks (slice-empty to file))
+  pub blanks-test : eqb r to ≡ blanks (slice from to file)
+  blanks-test = go (eqb r to) refl
+    where
+      go : (t : Bool) → eqb r to ≡ t → t ≡ blanks (slice from to file)
+      go true e = sym (blanks-run ∙ ap (λ (z : ℕ). blanks (slice z to file)) (eqb-true r to e) ∙ ap blanks (slice-empty to file))
+      go false e =
+          let d = eqb-false r to e in
+          let hi = run .high in
+          let h : r < to = omega arith in
+          sym (blanks-run ∙ ap blanks (slice-cons r to file 0 h fits) ∙ rw (run .stops h))
 
   -- without the blanks in front, the same
   pub skip-run : skip (slice from to file) ≡ skip (slice r to file)
@@ -109,20 +207,20 @@ same-lengths [] (y ∷ ys) n = refl
 same-lengths (x ∷ xs) [] n = refl
 same-lengths (x ∷ xs) (y ∷ ys) n = rw (same-lengths xs ys (λ e. n (ap suc e)), and-false)
 
--- the first i bytes agree
-abbrev pub Agree : List ℕ → List ℕ → ℕ → Type 0
-Agree xs ys i = same xs ys ≡ same (drop i xs) (drop i ys)
+-- the first i bytes agree, or differ where the flag is set
+abbrev pub Compared : Bool → List ℕ → List ℕ → ℕ → Type 0
+Compared differs xs ys i = same xs ys ≡ (not differs && same (drop i xs) (drop i ys))
 
-module _ (xs ys : List ℕ) (i : ℕ) (a : Agree xs ys i) where
+module _ (differs : Bool) (xs ys : List ℕ) (i : ℕ) (a : Compared differs xs ys i) where
   module _ (hx : i < length xs) (hy : i < length ys) where
-    here : same xs ys ≡ (eqb (getD xs i 0) (getD ys i 0) && same (drop (suc i) xs) (drop (suc i) ys))
+    here : same xs ys ≡ (not differs && (eqb (getD xs i 0) (getD ys i 0) && same (drop (suc i) xs) (drop (suc i) ys)))
     here = a ∙ rw (drop-cons xs i 0 hx, drop-cons ys i 0 hy)
 
-    pub agree-next : getD xs i 0 ≡ getD ys i 0 → Agree xs ys (i + 1)
-    agree-next e = here ∙ rw (eq-eqb (getD xs i 0) (getD ys i 0) e, add-one)
+    pub compared-next : getD xs i 0 ≡ getD ys i 0 → Compared differs xs ys (i + 1)
+    compared-next e = here ∙ rw (eq-eqb (getD xs i 0) (getD ys i 0) e, add-one)
 
-    pub agree-not : (getD xs i 0 ≡ getD ys i 0 → ⊥) → same xs ys ≡ false
-    agree-not e = here ∙ rw (ne-eqb (getD xs i 0) (getD ys i 0) e)
+    pub compared-not : (getD xs i 0 ≡ getD ys i 0 → ⊥) → same xs ys ≡ false
+    compared-not e = here ∙ rw (ne-eqb (getD xs i 0) (getD ys i 0) e, and-false)
 
-  pub agree-end : length xs ≤ i → length ys ≤ i → same xs ys ≡ true
-  agree-end hx hy = a ∙ rw (drop-of-length-le xs hx, drop-of-length-le ys hy)
+  pub compared-end : length xs ≤ i → length ys ≤ i → same xs ys ≡ not differs
+  compared-end hx hy = a ∙ rw (drop-of-length-le xs hx, drop-of-length-le ys hy, and-true)

@@ -1,9 +1,10 @@
--- The walk over a file: what a step from the cursor, and the file's end, mean for the reading of the whole file. Assumes nothing.
+-- The walk over a file: what its length, a step from the cursor, and the file's end mean for the reading of the whole file. Assumes nothing.
 use mathlib.Core.Path.{_≡_, refl, sym, ap, _∙_, subst}
 use mathlib.Core.Option.{Option, none, some}
 use mathlib.Core.List.{List, [], _∷_, _++_, append-assoc, append-nil}
 use Prim.Native.Nat.{ℕ, _+_, _-_, _≤_, _<_}
 use native.Mathlib.Omega.{arith}
+use borrow.Author.Tests.{le-leb, lt-leb}
 use lib.ListN.{length, drop, length-append}
 use lib.Seq.{slice, slice-empty, length-take-le}
 use Rattle.cbf_walk.specs.Parsers.{Res, bad, cut, ok}
@@ -13,11 +14,11 @@ use Rattle.cbf_format.specs.Sections as S
 use Rattle.cbf_format.specs.Files as F
 use Rattle.cbf_format.specs.Listing.{addPlaced, sections}
 use Rattle.cbf_format.proofs.FileLaws.{step-tame, step-moves, took}
-use Rattle.cbf_reader.specs.StepPlaces.{sectionAt, fieldAt, CursorOf, Ready, StepSays}
-use Rattle.cbf_reader.specs.WalkPlaces.{whole, startCursor, Come, NextSays, openPlace, endOf}
+use Rattle.cbf_reader.specs.StepPlaces.{sectionAt, fieldAt, Back, CursorOf, Ready, StepSays}
+use Rattle.cbf_reader.specs.WalkPlaces.{whole, startCursor, Come, SectionOf, NextSays, FieldStands, openPlace, endOf}
 use Rattle.cbf_reader.specs.declared.step.Cursor.{Cursor}
 use Rattle.cbf_reader.specs.declared.step.Field.{Field}
-use Rattle.cbf_reader.specs.declared.step.Field.the-variants.{Outside}
+use Rattle.cbf_reader.specs.declared.step.Field.the-variants.{First, Outside, Opened, Inside}
 use Rattle.cbf_reader.specs.declared.step.Stepped.{Stepped}
 use Rattle.cbf_reader.specs.declared.step.Stepped.the-variants as T
 use Rattle.cbf_reader.proofs.SectionCounts.{counted-on}
@@ -39,6 +40,41 @@ cut-place at F.outside = refl
 cut-place at (F.opened n) = refl
 cut-place at (F.inside n) = refl
 
+-- an empty file, and one with a byte
+pub read-empty : (limit : ℕ) (file : List ℕ) → length file ≡ 0 → F.read limit file ≡ refused 1 0
+unfolding F.read
+read-empty limit [] h = refl
+read-empty limit (x ∷ xs) h = absurd (omega (arith, h))
+
+read-some : (limit : ℕ) (file : List ℕ) → 0 < length file → F.readSome limit file ≡ whole limit file
+read-some limit [] h = absurd (omega (arith, h))
+read-some limit (x ∷ xs) h = refl
+
+module _ (limit : ℕ) (file : List ℕ) where
+  pub read-long : S.fileLimit < length file → F.read limit file ≡ refused 4 0
+  unfolding F.read
+  read-long h = rw (lt-leb (length file) S.fileLimit h)
+
+  pub read-whole : 0 < length file → length file ≤ S.fileLimit → F.read limit file ≡ whole limit file
+  unfolding F.read
+  read-whole some-byte fits = rw (le-leb (length file) S.fileLimit fits) (read-some limit file some-byte)
+
+-- the place of a field of the code, and of the definition
+pub field-back : (field : Field) (at : ℕ) → FieldStands field at → (f : F.Field) × (Back at f × (field ≡ fieldAt at f))
+field-back First at h = (F.first-line, (h, refl))
+field-back Outside at h = (F.outside, (h, refl))
+field-back (Opened p) at h = let e : p ≡ at - (at - p) = omega arith in (F.opened (at - p), (omega arith, ap Opened e))
+field-back (Inside p) at h = let e : p ≡ at - (at - p) = omega arith in (F.inside (at - p), (omega arith, ap Inside e))
+
+pub back-field : (field : Field) (at : ℕ) (f : F.Field) → Back at f → field ≡ fieldAt at f → FieldStands field at
+back-field field at f h e = subst (λ (z : Field). FieldStands z at) (sym e) (go f h)
+  where
+    go : (f : F.Field) → Back at f → FieldStands (fieldAt at f) at
+    go F.first-line h = h
+    go F.outside h = h
+    go (F.opened n) h = omega arith
+    go (F.inside n) h = omega arith
+
 -- lines without a section lead from the cursor c₀ to the cursor c
 abbrev pub Walked : ℕ → List ℕ → Cursor → Cursor → Type 0
 Walked limit file c₀ c = (done : F.Tree) → Come limit file done c₀ → (its : F.Tree) × (sections 0 its ≡ []) × Come limit file (done ++ its) c
@@ -52,8 +88,7 @@ Gave limit file c done (T.Section x d) =
     (it : Item F.State S.Section)
     × (i : S.Section)
     × (it .info ≡ some i)
-    × (x ≡ sectionAt (length (flat done)) (x .block) i)
-    × (slice (x .block .from) (x .block .to) file ≡ i .block)
+    × SectionOf file (record { boundary = length (flat done); section = i }) x
     × (d .field ≡ Outside)
     × (length (flat done) < d .at)
     × Come limit file (done ++ (it ∷ [])) d
@@ -151,8 +186,12 @@ module _ (limit : ℕ) (file : List ℕ) (c : Cursor) (ready : Ready file c) whe
               itemAt file (c .at) (some i, t) n,
               i,
               refl,
-              ap (λ (z : ℕ). sectionAt z (c .block) i) (sym l),
-              k .stands .block ∙ sym (o .name),
+              record {
+                fields = ap (λ (z : ℕ). sectionAt z (c .block) i) (sym l);
+                block = k .stands .block ∙ sym (o .name);
+                block-low = ready .block-low;
+                block-high = ready .block-high;
+              },
               h .2 .1 .field ∙ ap (λ (z : F.State). fieldAt (h .0 .at) (z .field)) (o .after),
               omega (arith, l, m, q),
               after t (some i) n e (h .0) (h .2 .0) (h .2 .1) (h .2 .2),

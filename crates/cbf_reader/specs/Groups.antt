@@ -20,6 +20,10 @@ addSymbolTo g Pad = record { letters = g .letters; pads = g .pads + 1; last = g 
 addSymbolTo g Blank = g
 addSymbolTo g Other = g
 
+-- n letters more, of which this is the last
+abbrev pub addLettersTo : Groups → ℕ → Symbol → Groups
+addLettersTo g n s = let h = addSymbolTo g s in record { letters = g .letters + n; pads = h .pads; last = h .last; broken = h .broken }
+
 unfoldable pub groupsFrom : Groups → List Symbol → Groups
 groupsFrom g [] = g
 groupsFrom g (s ∷ l) = groupsFrom (addSymbolTo g s) l

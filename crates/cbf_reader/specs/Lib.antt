@@ -9,4 +9,4 @@ pub mod Base64Places
 pub mod DataPlaces
 pub mod StepPlaces
 pub mod WalkPlaces
-pub mod Counts
+pub mod Surveys

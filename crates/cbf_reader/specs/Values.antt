@@ -2,7 +2,7 @@
 -- one space".
 use mathlib.Core.Path.{_≡_}
 use mathlib.Core.Option.{Option, none, some}
-use mathlib.Core.Bool.{Bool, true, false, not, cond, _||_}
+use mathlib.Core.Bool.{Bool, true, false, cond, _||_}
 use mathlib.Core.List.{List, [], _∷_}
 use Prim.Native.Nat.{ℕ, _+_, _-_, _^_, _<_, _≤_}
 use lib.Dec.{eqb}
@@ -98,9 +98,6 @@ InRangeOf known (Number n) = (n < 2 ^ 31) × (7 ≤ known → 1 ≤ n)
 -- what the parts after the `;` at a place say, or no part
 unfoldable pub laterParts : List ℕ → ℕ → ℕ → Option ℕ
 laterParts file at to = contentType (partThen [] (cond (eqb at to) (some []) (parts false (joined (slice (at + 1) to file)))))
-
-abbrev pub notEquals : ℕ → Bool
-notEquals x = not (eqb x 61)
 
 abbrev pub someOf : Option ℕ → Bool
 someOf none = false

@@ -1,18 +1,21 @@
 -- The walk over a file, section by section.
 use mathlib.Core.Path.{_≡_}
-use mathlib.Core.Option.{Option, none, some}
+use mathlib.Core.Option.{some}
 use mathlib.Core.List.{List, [], _∷_, _++_}
-use Prim.Native.Nat.{ℕ, _<_}
+use Prim.Native.Nat.{ℕ, _<_, _≤_}
 use lib.ListN.{length}
 use lib.Seq.{slice}
 use Rattle.cbf_walk.specs.Reading.{Item, Reading, refused, good, flat, readF, Reached}
 use Rattle.cbf_format.specs.Sections as S
 use Rattle.cbf_format.specs.Files as F
-use Rattle.cbf_format.specs.Listing.{sections}
+use Rattle.cbf_format.specs.Listing.{Placed, sections}
 use Rattle.cbf_reader.specs.StepPlaces.{sectionAt, CursorOf, Ready}
 use Rattle.cbf_reader.specs.declared.step.Cursor.{Cursor}
+use Rattle.cbf_reader.specs.declared.step.Section.{Section}
 use Rattle.cbf_reader.specs.declared.step.Field.{Field}
 use Rattle.cbf_reader.specs.declared.step.Field.the-variants.{First, Outside, Opened, Inside}
+use Rattle.cbf_reader.specs.declared.walk.Start.{Start}
+use Rattle.cbf_reader.specs.declared.walk.Start.the-variants as B
 use Rattle.cbf_reader.specs.declared.walk.NextSection.{NextSection}
 use Rattle.cbf_reader.specs.declared.walk.NextSection.the-variants.{Refused, End, Found}
 
@@ -28,6 +31,14 @@ pub record Come (limit : ℕ) (file : List ℕ) (done : F.Tree) (c : Cursor) : T
   pub counted : length (sections 0 done) ≡ state .count
   pub ready : Ready file c
 
+-- a section of the code is a section of the file: every field but the place of its block's name is the tree's, and at that place the
+-- name stands
+pub record SectionOf (file : List ℕ) (p : Placed) (s : Section) : Type 0 where
+  pub fields : s ≡ sectionAt (p .boundary) (s .block) (p .section)
+  pub block : slice (s .block .from) (s .block .to) file ≡ p .section .block
+  pub block-low : s .block .from ≤ s .block .to
+  pub block-high : s .block .to ≤ length file
+
 -- what comes after these items: a section after lines without one; or such lines and the file's end; or a refusal of the file
 abbrev pub NextSays : ℕ → List ℕ → F.Tree → NextSection → Type 0
 NextSays limit file done (Refused r) = whole limit file ≡ refused (r .number) (r .place)
@@ -38,8 +49,7 @@ NextSays limit file done (Found s d) =
     × (i : S.Section)
     × (it .info ≡ some i)
     × (sections 0 its ≡ [])
-    × (s ≡ sectionAt (length (flat (done ++ its))) (s .block) i)
-    × (slice (s .block .from) (s .block .to) file ≡ i .block)
+    × SectionOf file (record { boundary = length (flat (done ++ its)); section = i }) s
     × (d .field ≡ Outside)
     × (length (flat done) < d .at)
     × Come limit file (done ++ (its ++ (it ∷ []))) d
@@ -47,6 +57,18 @@ NextSays limit file done (Found s d) =
 -- the cursor before the first line
 abbrev pub startCursor : Cursor
 startCursor = record { at = 0; count = 0; block = record { from = 0; to = 0 }; field = First }
+
+-- a file that is refused before its first line, or the cursor before that
+abbrev pub StartSays : ℕ → List ℕ → Start → Type 0
+StartSays limit file (B.Refused r) = F.read limit file ≡ refused (r .number) (r .place)
+StartSays limit file (B.At c) = (c ≡ startCursor) × (F.read limit file ≡ whole limit file) × (0 < length file) × (length file ≤ S.fileLimit)
+
+-- a field of the code, at a place
+abbrev pub FieldStands : Field → ℕ → Type 0
+FieldStands First at = at ≡ 0
+FieldStands Outside at = 0 ≤ 0
+FieldStands (Opened p) at = p ≤ at
+FieldStands (Inside p) at = p ≤ at
 
 -- the place of the open field's `;`, or of the step that the file's end cut
 abbrev pub openPlace : Field → ℕ → ℕ

@@ -1,11 +1,13 @@
 // BASE64 text.
+use crate::text;
+use crate::text::Class;
 use cbf_format::Symbol;
 ghost use mathlib.Core.Path.{_≡_};
 ghost use mathlib.Core.List.{[]};
 ghost use Prim.Native.Nat.{_+_, _≤_};
 ghost use lib.ListN.{length};
 ghost use Rattle.cbf_format.specs.Base64.{symbol as symbolOf};
-ghost use Rattle.cbf_reader.specs.Groups.{addSymbolTo, groupsOf, SymbolsTo, groupsHold};
+ghost use Rattle.cbf_reader.specs.Groups.{addSymbolTo, addLettersTo, groupsOf, SymbolsTo, groupsHold};
 
 // "A match on the byte with ranges gives its six-bit number, a pad, a blank, or none."
 pub fn symbol(b: u8) -> Symbol
@@ -107,13 +109,33 @@ pub struct Symbols {
     pub to: usize,
 }
 
-// The symbols of the text from `from` on, added one after another, up to `to` or the first byte that is no letter, pad or blank.
+// n letters more, of which this byte is the last.
+fn with_letters(g: Groups, n: usize, last: u8) -> Groups
+    requires { ⌜ (g .letters + n ≤ 1073741824) × (g .pads ≤ 1073741824) ⌝ }
+    ensures { λ r. ⌜ r ≡ addLettersTo g n (symbolOf last) ⌝ }
+{
+    let s = symbol(last);
+    let h = with_symbol(g, s);
+    Groups {
+        letters: g.letters + n,
+        pads: h.pads,
+        last: h.last,
+        broken: h.broken,
+    }
+}
+
+// The symbols of the text from `from` on, up to `to` or the first byte that is no letter, pad or blank: letters by blocks, of which
+// only the last one's number counts, then one symbol after another.
 pub fn text_symbols(file: &[u8], from: usize, to: usize, g: Groups) -> Symbols
     requires { ⌜ (from ≤ to) × (to ≤ length (now file)) × (g .letters + g .pads ≤ from) × (to ≤ 1073741824) ⌝ }
     ensures { λ r. ⌜ SymbolsTo (now (file .entry)) from to g r ⌝ }
 {
+    let run = text::after_blocks(file, from, to, Class::Base64Letter);
     let mut h = g;
-    let mut i = from;
+    if from < run {
+        h = with_letters(g, run - from, file[run - 1]);
+    }
+    let mut i = run;
     while i < to {
         let s = symbol(file[i]);
         match s {

@@ -15,14 +15,16 @@ ghost use lib.Seq.{slice};
 ghost use Rattle.cbf_format.specs.Values.{withPart, quotedOneOf, unquote, contentType, parts};
 ghost use Rattle.cbf_format.specs.Text.{bytes, trim};
 ghost use Rattle.cbf_reader.specs.Places.{Run};
-ghost use Rattle.cbf_reader.specs.Values.{joined, wholeOf, notEquals, someOf, PartAt, laterParts};
+ghost use Rattle.cbf_reader.specs.declared.text.Class.the-variants.{Not};
+ghost use Rattle.cbf_reader.specs.Classes.{inClass};
+ghost use Rattle.cbf_reader.specs.Values.{joined, wholeOf, someOf, PartAt, laterParts};
 
 // The place of the first `=` of a part, or its end.
 fn equals(file: &[u8], from: usize, to: usize) -> usize
     requires { ⌜ (from ≤ to) × (to ≤ length (now file)) ⌝ }
-    ensures { λ r. ⌜ Run notEquals (now (file .entry)) from to r ⌝ }
+    ensures { λ r. ⌜ Run (inClass (Not 61)) (now (file .entry)) from to r ⌝ }
 {
-    text::after(file, from, to, Class::NotEquals)
+    text::after(file, from, to, Class::Not(61))
 }
 
 // Whether the text is the name of byte offset, quoted or not.

@@ -1,6 +1,7 @@
 // A header with the lines that continue it.
 use crate::line;
 use crate::text;
+use crate::text::Class;
 ghost use Prim.Native.Nat.{_<_};
 ghost use Rattle.cbf_reader.specs.HeaderPlaces.{HeadersHere, HeaderParts};
 
@@ -16,7 +17,7 @@ pub fn header_parts(file: &[u8], from: usize, empty: usize) -> Parts
     requires { ⌜ HeadersHere (now file) from empty × (from < empty) ⌝ }
     ensures { λ r. ⌜ ((h : HeadersHere (now (file .entry)) from empty) → HeaderParts (now (file .entry)) from empty h r) ⌝ }
 {
-    let colon = text::after_name(file, from, empty);
+    let colon = text::after(file, from, empty, Class::Not(58));
     let mut to = text::after_text(file, colon, empty);
     let mut next = line::after_end(file, to);
     while next < empty {

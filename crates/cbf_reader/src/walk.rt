@@ -7,9 +7,11 @@ use crate::step::Stepped;
 use crate::value::Range;
 use cbf_pixels::Refusal;
 ghost use mathlib.Core.Path.{_≡_};
+ghost use mathlib.Core.Bool.{true};
+ghost use Prim.Native.Nat.{ℕ};
 ghost use Rattle.cbf_format.specs.Files as F;
 ghost use Rattle.cbf_reader.specs.StepPlaces.{Ready};
-ghost use Rattle.cbf_reader.specs.WalkPlaces.{startCursor, openPlace, endOf, Come, NextSays};
+ghost use Rattle.cbf_reader.specs.WalkPlaces.{startCursor, StartSays, openPlace, endOf, FieldStands, Come, NextSays};
 
 // What reading on gives: the next section and the cursor after it, or the file's end.
 pub enum NextSection {
@@ -19,7 +21,7 @@ pub enum NextSection {
 }
 
 // The cursor before the first line.
-pub fn start() -> Cursor
+fn first_cursor() -> Cursor
     ensures { λ r. ⌜ r ≡ startCursor ⌝ }
 {
     Cursor {
@@ -28,6 +30,31 @@ pub fn start() -> Cursor
         block: Range { from: 0, to: 0 },
         field: Field::First,
     }
+}
+
+// Where reading begins.
+pub enum Start {
+    Refused(Refusal),
+    At(Cursor),
+}
+
+// "Too long comes before all"; "an empty file is refusal 1". Else the cursor before the first line.
+pub fn begin(file: &[u8]) -> Start
+    ensures { λ r. ⌜ ((limit : ℕ) → StartSays limit (now (file .entry)) r) ⌝ }
+{
+    if 1073741824 < file.len() {
+        return Start::Refused(Refusal {
+            number: 4,
+            place: 0,
+        });
+    }
+    if file.len() == 0 {
+        return Start::Refused(Refusal {
+            number: 1,
+            place: 0,
+        });
+    }
+    Start::At(first_cursor())
 }
 
 // The place of 11 where the file ends in the field, with the reading at at.
@@ -60,8 +87,8 @@ fn at_end(field: Field) -> NextSection
     }
 }
 
-// The next section from the cursor on.
-pub fn next_section(file: &[u8], c: Cursor, limit: usize) -> NextSection
+// The next section from a cursor that stands in the file.
+fn section_from(file: &[u8], c: Cursor, limit: usize) -> NextSection
     requires { ⌜ Ready (now file) c ⌝ }
     ensures { λ r. ⌜ ((done : F.Tree) → Come limit (now (file .entry)) done c → NextSays limit (now (file .entry)) done r) ⌝ }
 {
@@ -87,4 +114,50 @@ pub fn next_section(file: &[u8], c: Cursor, limit: usize) -> NextSection
     }
     let field = cursor.field;
     at_end(field)
+}
+
+// Whether the field's place agrees with the cursor's.
+fn field_stands(field: Field, at: usize) -> bool
+    ensures { λ r. ⌜ (r ≡ true → FieldStands field at) × (FieldStands field at → r ≡ true) ⌝ }
+{
+    match field {
+        Field::First => at == 0,
+        Field::Outside => true,
+        Field::Opened(p) => p <= at,
+        Field::Inside(p) => p <= at,
+    }
+}
+
+// Whether the cursor stands in the file, as each cursor does that begin and next_section give for it.
+fn stands(file: &[u8], c: Cursor) -> bool
+    ensures { λ r. ⌜ (r ≡ true → Ready (now (file .entry)) c) × (Ready (now (file .entry)) c → r ≡ true) ⌝ }
+{
+    let block = c.block;
+    let field = c.field;
+    if 1073741824 < file.len() {
+        return false;
+    }
+    if file.len() < c.at {
+        return false;
+    }
+    if 512 < c.count {
+        return false;
+    }
+    if block.to < block.from {
+        return false;
+    }
+    if file.len() < block.to {
+        return false;
+    }
+    field_stands(field, c.at)
+}
+
+// The next section from the cursor on. A cursor of another file may stand nowhere in this one: then there is none.
+pub fn next_section(file: &[u8], c: Cursor, limit: usize) -> NextSection
+    ensures { λ r. ⌜ ((done : F.Tree) → Come limit (now (file .entry)) done c → NextSays limit (now (file .entry)) done r) ⌝ }
+{
+    if !stands(file, c) {
+        return NextSection::End;
+    }
+    section_from(file, c, limit)
 }

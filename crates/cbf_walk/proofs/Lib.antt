@@ -1,4 +1,5 @@
 -- The laws of the definitions in specs/.
 pub mod ParserLaws
 pub mod ReadingLaws
+pub mod PlaceLaws
 pub mod EditLaws

@@ -3,10 +3,10 @@ use mathlib.Core.Path.{_≡_, refl, sym, ap, _∙_}
 use mathlib.Core.Bool.{true, false, not}
 use mathlib.Core.List.{[], _∷_}
 use mathlib.Core.Logic.{⊎-elim}
-use Prim.Native.Nat.{ℕ, _+_, _-_, _≤_}
+use Prim.Native.Nat.{ℕ, _+_, _-_, _≤_, _<_}
 use native.Mathlib.Omega.{arith}
 use borrow.Author.Needs.{needs}
-use lib.ListN.{getD}
+use lib.ListN.{length, getD}
 use lib.Seq.{slice}
 use types.Run.{OneOf}
 use denote.Enum.Declared.{tagOf}
@@ -16,9 +16,9 @@ use Rattle.cbf_format.specs.Base64.{symbol, isOther}
 use Rattle.cbf_format.proofs.Symbol.{the-type}
 use Rattle.cbf_reader.specs.declared.base64.Groups.{Groups}
 use Rattle.cbf_reader.specs.Places.{Run}
-use Rattle.cbf_reader.specs.Groups.{addSymbolTo, bytesFrom, symbolic}
-use Rattle.cbf_reader.proofs.Texts.{run-start, run-next, run-stop}
-use Rattle.cbf_reader.proofs.GroupLaws.{bytes-next, bytes-end, symbol-count}
+use Rattle.cbf_reader.specs.Groups.{addSymbolTo, bytesFrom, symbolic, SymbolsTo}
+use Rattle.cbf_reader.proofs.Texts.{run-next, run-stop}
+use Rattle.cbf_reader.proofs.GroupLaws.{bytes-next, bytes-end, symbol-count, letters-count, run-symbolic, letters-run}
 use Rattle.cbf_reader.proofs.base64.text_symbols.Statement.{statement}
 use Rattle.cbf_reader.proofs.base64.text_symbols.Tie as tie
 
@@ -38,14 +38,63 @@ unfolding symbolic
 byte-other x s e h = ap (λ (r : Symbol). not (isOther r)) (sym e ∙ h)
 
 abbrev Inv-loop : tie.InvT-loop
-Inv-loop file from to h₀ i₀ h i =
-    (i ≤ to) × (h .letters + h .pads ≤ i) × Run symbolic file i₀ i i × ((j : ℕ) → i ≤ j → j ≤ to → bytesFrom h (slice i j file) ≡ bytesFrom h₀ (slice i₀ j file))
+Inv-loop file from to run h₀ i₀ h i =
+    (i ≤ to) × (h .letters + h .pads ≤ i) × Run symbolic file from i i × ((j : ℕ) → i ≤ j → j ≤ to → bytesFrom h (slice i j file) ≡ bytesFrom h₀ (slice i₀ j file)) × (i₀ ≤ i)
 
 abbrev μ-loop : tie.MeasureT-loop
-μ-loop file from to h₀ i₀ h i = to - i
+μ-loop file from to run h₀ i₀ h i = to - i
+
+after-blocks-requires : tie.Need-after-blocks-requires Inv-loop μ-loop
+after-blocks-requires c κs = search needs
+
+sub-with-letters : tie.Need-sub-with-letters Inv-loop μ-loop
+sub-with-letters c = search needs
+
+sub-with-letters-2 : tie.Need-sub-with-letters-2 Inv-loop μ-loop
+sub-with-letters-2 c = search needs
+
+shared-slice-read-with-letters : tie.Need-shared-slice-read-with-letters Inv-loop μ-loop
+shared-slice-read-with-letters c = search needs
+
+with-letters-requires : tie.Need-with-letters-requires Inv-loop μ-loop
+with-letters-requires c κs = search needs
+
+-- where the arms meet: the letters in front are added, or there are none
+module _ (c : tie.Joined1 Inv-loop μ-loop) where
+  few : c .if1 .h .letters + c .if1 .h .pads ≤ c .before .after-blocks .result
+  few =
+      let a = c .before .before .before .args in
+      let m = c .before .after-blocks .result in
+      let run = c .before .after-blocks .ensures .1 in
+      ⊎-elim
+      (λ w. let t = w .0 .taken in rw (w .3 ∙ w .2 .ensures) (omega (arith, letters-count (a .g) (m - a .from) (symbol (getD (a .file .now) (m - 1) 0)) (run .each (m - 1) (omega arith) (omega arith)))))
+      (λ w. rw (w .1) (omega arith))
+      (c .if1 .came)
+
+  in-front : let a = c .before .before .before .args in let m = c .before .after-blocks .result in (j : ℕ) → m ≤ j → j ≤ length (a .file .now)
+      → bytesFrom (c .if1 .h) (slice m j (a .file .now)) ≡ bytesFrom (a .g) (slice (a .from) j (a .file .now))
+  in-front j h k =
+      let a = c .before .before .before .args in
+      let m = c .before .after-blocks .result in
+      let run = c .before .after-blocks .ensures .1 in
+      ⊎-elim
+      (λ w. ap (λ (g : Groups). bytesFrom g (slice m j (a .file .now))) (w .3 ∙ w .2 .ensures) ∙ letters-run run (a .g) j (w .0 .taken) h k)
+      (λ w. let l = w .0 .left in let low = run .low in let e : m ≡ a .from = omega arith in ap (λ (g : Groups). bytesFrom g (slice m j (a .file .now))) (w .1) ∙ ap (λ (i : ℕ). bytesFrom (a .g) (slice i j (a .file .now))) e)
+      (c .if1 .came)
 
 loop-holds : tie.Need-loop-holds Inv-loop μ-loop
-loop-holds c = (omega arith, omega arith, run-start _, λ j h k. refl)
+loop-holds c = (omega arith, few c, run-symbolic (c .before .after-blocks .ensures .1), (λ j h k. refl), omega arith)
+
+-- at the loop's head: the symbols up to i, where the text ends or has another byte there
+so-far : (c : tie.At-loop Inv-loop μ-loop) → let a = c .before .before .before .before .args in let l = c .loop in (l .i < a .to → symbolic (getD (a .file .now) (l .i) 0) ≡ false)
+    → SymbolsTo (a .file .now) (a .from) (a .to) (a .g) (record { groups = l .h; to = l .i })
+so-far c stop =
+    let l = c .loop in
+    record {
+      run = run-stop (l .inv .2) (l .inv .0) stop;
+      added = sym (bytes-end (l .h) (c .before .before .before .before .args .file .now) (l .i)) ∙ l .inv .3 (l .i) (omega arith) (l .inv .0) ∙ in-front (c .before) (l .i) (l .inv .4) (omega arith);
+      most = l .inv .1;
+    }
 
 shared-slice-read-symbol : tie.Need-shared-slice-read-symbol Inv-loop μ-loop
 shared-slice-read-symbol c = search needs
@@ -58,14 +107,7 @@ enum-told c = search needs
 
 returns : tie.Need-returns Inv-loop μ-loop
 returns c =
-    let a = c .before .before .before .before .before .before .before .args in
-    let l = c .before .before .before .before .before .loop in
-    let file = a .file .now in
-    record {
-      run = run-stop (l .inv .2) (l .inv .0) (λ h. byte-other (getD file (l .i) 0) (c .before .before .symbol .result) (c .before .before .symbol .ensures) (c .enum-told .given .1));
-      added = sym (bytes-end (l .h) file (l .i)) ∙ l .inv .3 (l .i) (omega arith) (l .inv .0);
-      most = l .inv .1;
-    }
+    so-far (c .before .before .before .before .before) (λ h. byte-other _ (c .before .before .symbol .result) (c .before .before .symbol .ensures) (c .enum-told .given .1))
 
 with-symbol-requires : tie.Need-with-symbol-requires Inv-loop μ-loop
 with-symbol-requires c κs = search needs
@@ -78,7 +120,7 @@ loop-less c = search needs
 
 loop-again : tie.Need-loop-again Inv-loop μ-loop
 loop-again c =
-    let a = c .before .before .before .before .before .before .before .args in
+    let a = c .before .before .before .before .before .before .before .before .before .args in
     let l = c .before .before .before .before .before .loop in
     let file = a .file .now in
     let x = getD file (l .i) 0 in
@@ -87,19 +129,12 @@ loop-again c =
       omega arith,
       rw e (omega (arith, symbol-count (l .h) s)),
       run-next (l .inv .2) (byte-known x (c .before .before .symbol .result) (c .before .before .symbol .ensures) (known (c .before .before .symbol .result) (c .before .match .keys2))),
-      λ j h k. ap (λ (g : Groups). bytesFrom g (slice (l .i + 1) j file)) e ∙ sym (bytes-next (l .h) file (l .i) j (omega arith) (omega arith)) ∙ l .inv .3 j (omega arith) k,
+      (λ j h k. ap (λ (g : Groups). bytesFrom g (slice (l .i + 1) j file)) e ∙ sym (bytes-next (l .h) file (l .i) j (omega arith) (omega arith)) ∙ l .inv .3 j (omega arith) k),
+      omega arith,
     )
 
 returns-2 : tie.Need-returns-2 Inv-loop μ-loop
-returns-2 c =
-    let a = c .before .before .before .args in
-    let l = c .before .loop in
-    let file = a .file .now in
-    record {
-      run = run-stop (l .inv .2) (l .inv .0) (λ h. absurd (omega arith));
-      added = sym (bytes-end (l .h) file (l .i)) ∙ l .inv .3 (l .i) (omega arith) (l .inv .0);
-      most = l .inv .1;
-    }
+returns-2 c = so-far (c .before) (λ h. absurd (omega arith))
 
 pub text-symbols-spec : {M : Type 1} → statement M
 text-symbols-spec =
@@ -107,6 +142,11 @@ text-symbols-spec =
     (tie.spec
     Inv-loop
     μ-loop
+    after-blocks-requires
+    sub-with-letters
+    sub-with-letters-2
+    shared-slice-read-with-letters
+    with-letters-requires
     loop-holds
     shared-slice-read-symbol
     symbol-requires

@@ -20,11 +20,11 @@ abbrev μ-loop : tie.MeasureT-loop
 ends : (c : tie.Start Inv-loop μ-loop) → c .args .empty < length (now (c .args .file))
 ends c = before-end (now (c .args .file)) (c .args .from) (c .args .empty) (c .pre .0)
 
-after-name-requires : tie.Need-after-name-requires Inv-loop μ-loop
-after-name-requires c κs = let e = ends (c .before) in (omega arith, omega arith)
+after-requires : tie.Need-after-requires Inv-loop μ-loop
+after-requires c κs = let e = ends (c .before) in (omega arith, omega arith)
 
 after-text-requires : tie.Need-after-text-requires Inv-loop μ-loop
-after-text-requires c κs = let e = ends (c .before .before) in (c .after-name .ensures .high, omega arith)
+after-text-requires c κs = let e = ends (c .before .before) in (c .after .ensures .high, omega arith)
 
 after-end-requires : tie.Need-after-end-requires Inv-loop μ-loop
 after-end-requires c κs = let e = ends (c .before .before .before) in let r = c .after-text .ensures .high in omega arith
@@ -32,8 +32,8 @@ after-end-requires c κs = let e = ends (c .before .before .before) in let r = c
 loop-holds : tie.Need-loop-holds Inv-loop μ-loop
 loop-holds c h =
     let s = c .before .before .before .before in
-    walk-first (now (s .args .file)) (s .args .from) (s .args .empty) h (c .before .before .after-name .result) (c .before .after-text .result) (c .after-end .result)
-    (s .pre .1) (c .before .before .after-name .ensures) (c .before .after-text .ensures) (c .after-end .ensures .0)
+    walk-first (now (s .args .file)) (s .args .from) (s .args .empty) h (c .before .before .after .result) (c .before .after-text .result) (c .after-end .result)
+    (s .pre .1) (c .before .before .after .ensures) (c .before .after-text .ensures) (c .after-end .ensures .0)
 
 shared-slice-read-blank : tie.Need-shared-slice-read-blank Inv-loop μ-loop
 shared-slice-read-blank c = let e = ends (c .before .before .before .before .before .before .before) in omega arith
@@ -45,7 +45,7 @@ returns : tie.Need-returns Inv-loop μ-loop
 returns c h =
     let s = c .before .before .before .before .before .before .before .before .before in
     let l = c .before .before .before .before .loop in
-    walk-stop (now (s .args .file)) (s .args .from) (s .args .empty) h (c .before .before .before .before .before .before .before .after-name .result) (l .to) (l .next) (l .inv h)
+    walk-stop (now (s .args .file)) (s .args .from) (s .args .empty) h (c .before .before .before .before .before .before .before .after .result) (l .to) (l .next) (l .inv h)
     (c .before .before .before .loop-test .taken) (sym (c .before .blank .ensures) ∙ not-true _ (c .if1 .taken))
 
 after-text-requires-2 : tie.Need-after-text-requires-2 Inv-loop μ-loop
@@ -64,7 +64,7 @@ loop-again : tie.Need-loop-again Inv-loop μ-loop
 loop-again c h =
     let s = c .before .before .before .before .before .before .before .before .before .before .before in
     let l = c .before .before .before .before .before .before .loop in
-    walk-more (now (s .args .file)) (s .args .from) (s .args .empty) h (c .before .before .before .before .before .before .before .before .before .after-name .result) (l .to) (l .next) (l .inv h)
+    walk-more (now (s .args .file)) (s .args .from) (s .args .empty) h (c .before .before .before .before .before .before .before .before .before .after .result) (l .to) (l .next) (l .inv h)
     (c .before .before .before .before .before .loop-test .taken) (sym (c .before .before .before .blank .ensures) ∙ not-false _ (c .before .before .if1 .left))
     (c .before .after-text2 .result) (c .after-end2 .result) (c .before .after-text2 .ensures) (c .after-end2 .ensures .0)
 
@@ -72,7 +72,7 @@ returns-2 : tie.Need-returns-2 Inv-loop μ-loop
 returns-2 c h =
     let s = c .before .before .before .before .before .before in
     let l = c .before .loop in
-    walk-end (now (s .args .file)) (s .args .from) (s .args .empty) h (c .before .before .before .before .after-name .result) (l .to) (l .next) (l .inv h)
+    walk-end (now (s .args .file)) (s .args .from) (s .args .empty) h (c .before .before .before .before .after .result) (l .to) (l .next) (l .inv h)
     (omega arith)
 
 pub header-parts-spec : {M : Type 1} → statement M
@@ -81,7 +81,7 @@ header-parts-spec =
     (tie.spec
     Inv-loop
     μ-loop
-    after-name-requires
+    after-requires
     after-text-requires
     after-end-requires
     loop-holds

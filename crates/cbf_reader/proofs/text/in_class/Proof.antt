@@ -20,38 +20,38 @@ blank-requires c κs = search needs
 enum-told-2 : tie.Need-enum-told-2
 enum-told-2 c = search needs
 
-name-byte-requires : tie.Need-name-byte-requires
-name-byte-requires c κs = search needs
+blank-requires-2 : tie.Need-blank-requires-2
+blank-requires-2 c κs = search needs
+
+enum-known-class : tie.Need-enum-known-class
+enum-known-class c = search needs
 
 enum-told-3 : tie.Need-enum-told-3
 enum-told-3 c = search needs
 
-textual-requires : tie.Need-textual-requires
-textual-requires c κs = search needs
+plain-requires : tie.Need-plain-requires
+plain-requires c κs = search needs
 
 enum-told-4 : tie.Need-enum-told-4
 enum-told-4 c = search needs
 
-enum-told-5 : tie.Need-enum-told-5
-enum-told-5 c = search needs
-
-blank-requires-2 : tie.Need-blank-requires-2
-blank-requires-2 c κs = search needs
+base64-letter-requires : tie.Need-base64-letter-requires
+base64-letter-requires c κs = search needs
 
 returns : tie.Need-returns
 returns c = by-class (c .before .before .before .args .b) (c .before .enum-told .given .1) (c .blank .ensures)
 
 returns-2 : tie.Need-returns-2
-returns-2 c = by-class (c .before .before .before .args .b) (c .before .enum-told2 .given .1) (c .name-byte .ensures)
+returns-2 c = by-class (c .before .before .before .args .b) (c .before .enum-told2 .given .1) (ap not (c .blank2 .ensures))
 
 returns-3 : tie.Need-returns-3
-returns-3 c = by-class (c .before .before .before .args .b) (c .before .enum-told3 .given .1) (c .textual .ensures)
+returns-3 c = by-class (c .before .before .before .args .b) (c .before .class .given .1) refl
 
 returns-4 : tie.Need-returns-4
-returns-4 c = by-class (c .before .before .args .b) (c .enum-told4 .given .1) refl
+returns-4 c = by-class (c .before .before .before .args .b) (c .before .enum-told3 .given .1) (c .plain .ensures)
 
 returns-5 : tie.Need-returns-5
-returns-5 c = by-class (c .before .before .before .args .b) (c .before .enum-told5 .given .1) (ap not (c .blank2 .ensures))
+returns-5 c = by-class (c .before .before .before .args .b) (c .before .enum-told4 .given .1) (c .base64-letter .ensures)
 
 pub in-class-spec : {M : Type 1} → statement M
 in-class-spec =
@@ -60,12 +60,12 @@ in-class-spec =
     enum-told
     blank-requires
     enum-told-2
-    name-byte-requires
-    enum-told-3
-    textual-requires
-    enum-told-4
-    enum-told-5
     blank-requires-2
+    enum-known-class
+    enum-told-3
+    plain-requires
+    enum-told-4
+    base64-letter-requires
     returns
     returns-2
     returns-3

@@ -1,15 +1,16 @@
 use mathlib.Core.Path.{refl, sym, _∙_}
+use mathlib.Core.Bool.{false}
 use Prim.Native.Nat.{_-_, _≤_}
 use native.Mathlib.Omega.{arith}
 use lib.ListN.{length}
 use lib.Seq.{slice, length-slice}
 use denote.Ref.{now}
-use Rattle.cbf_reader.proofs.Texts.{getD-slice, Agree, same-lengths, agree-next, agree-not, agree-end}
+use Rattle.cbf_reader.proofs.Texts.{getD-slice, Compared, same-lengths, compared-next, compared-not, compared-end}
 use Rattle.cbf_reader.proofs.text.is_word.Statement.{statement}
 use Rattle.cbf_reader.proofs.text.is_word.Tie as tie
 
 abbrev Inv-loop : tie.InvT-loop
-Inv-loop file from to word i₀ i = (i ≤ length word) × Agree (slice from to file) word i
+Inv-loop file from to word i₀ i = (i ≤ length word) × Compared false (slice from to file) word i
 
 abbrev μ-loop : tie.MeasureT-loop
 μ-loop file from to word i₀ i = length word - i
@@ -43,7 +44,7 @@ returns-2 c =
     let l = length-slice (a .from) (a .to) (now (a .file)) (c .before .before .before .before .before .before .pre .1) in
     let i = c .before .before .before .before .loop .i in
     let v = c .before .before .before .before .loop .inv .1 in
-    sym (agree-not s (now (a .word)) i v (omega arith) (omega arith) (λ e. c .if2 .taken (sym (getD-slice (a .from) (a .to) (now (a .file)) i (omega arith)) ∙ e)))
+    sym (compared-not false s (now (a .word)) i v (omega arith) (omega arith) (λ e. c .if2 .taken (sym (getD-slice (a .from) (a .to) (now (a .file)) i (omega arith)) ∙ e)))
 
 add-i : tie.Need-add-i Inv-loop μ-loop
 add-i c = omega arith
@@ -58,7 +59,7 @@ loop-again c =
     let l = length-slice (a .from) (a .to) (now (a .file)) (c .before .before .before .before .before .before .pre .1) in
     let i = c .before .before .before .before .loop .i in
     let v = c .before .before .before .before .loop .inv .1 in
-    (omega arith, agree-next s (now (a .word)) i v (omega arith) (omega arith) (getD-slice (a .from) (a .to) (now (a .file)) i (omega arith) ∙ c .if2 .left))
+    (omega arith, compared-next false s (now (a .word)) i v (omega arith) (omega arith) (getD-slice (a .from) (a .to) (now (a .file)) i (omega arith) ∙ c .if2 .left))
 
 returns-3 : tie.Need-returns-3 Inv-loop μ-loop
 returns-3 c =
@@ -67,7 +68,7 @@ returns-3 c =
     let l = length-slice (a .from) (a .to) (now (a .file)) (c .before .before .before .pre .1) in
     let i = c .before .loop .i in
     let v = c .before .loop .inv .1 in
-    sym (agree-end s (now (a .word)) i v (omega arith) (omega arith))
+    sym (compared-end false s (now (a .word)) i v (omega arith) (omega arith))
 
 pub is-word-spec : {M : Type 1} → statement M
 is-word-spec =

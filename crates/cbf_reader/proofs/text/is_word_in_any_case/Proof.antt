@@ -1,4 +1,5 @@
 use mathlib.Core.Path.{refl, sym, _∙_}
+use mathlib.Core.Logic.{⊎-elim}
 use Prim.Native.Nat.{_-_, _≤_}
 use native.Mathlib.Omega.{arith}
 use lib.ListN.{length}
@@ -6,15 +7,15 @@ use lib.Seq.{slice}
 use denote.Ref.{now}
 use borrow.Author.Needs.{needs}
 use Rattle.cbf_format.specs.Text.{lowers}
-use Rattle.cbf_reader.proofs.Texts.{lowers-at, length-lowered, Agree, same-lengths, agree-next, agree-not, agree-end}
+use Rattle.cbf_reader.proofs.Texts.{lowers-at, length-lowered, Compared, same-lengths, compared-next, compared-not, compared-end}
 use Rattle.cbf_reader.proofs.text.is_word_in_any_case.Statement.{statement}
 use Rattle.cbf_reader.proofs.text.is_word_in_any_case.Tie as tie
 
 abbrev Inv-loop : tie.InvT-loop
-Inv-loop file from to word i₀ i = (i ≤ length word) × Agree word (lowers (slice from to file)) i
+Inv-loop file from to word differs₀ i₀ differs i = (i ≤ length word) × Compared differs word (lowers (slice from to file)) i
 
 abbrev μ-loop : tie.MeasureT-loop
-μ-loop file from to word i₀ i = length word - i
+μ-loop file from to word differs₀ i₀ differs i = length word - i
 
 sub-if1 : tie.Need-sub-if1 Inv-loop μ-loop
 sub-if1 c = omega arith
@@ -41,15 +42,6 @@ lower-requires c κs = search needs
 shared-slice-read-if2 : tie.Need-shared-slice-read-if2 Inv-loop μ-loop
 shared-slice-read-if2 c = omega arith
 
-returns-2 : tie.Need-returns-2 Inv-loop μ-loop
-returns-2 c =
-    let a = c .before .before .before .before .before .before .before .before .before .args in
-    let s = lowers (slice (a .from) (a .to) (now (a .file))) in
-    let l = length-lowered (a .from) (a .to) (now (a .file)) (c .before .before .before .before .before .before .before .before .before .pre .1) in
-    let i = c .before .before .before .before .before .loop .i in
-    let v = c .before .before .before .before .before .loop .inv .1 in
-    sym (agree-not (now (a .word)) s i v (omega arith) (omega arith) (λ e. c .if2 .taken (c .before .before .lower .ensures ∙ sym (e ∙ lowers-at (a .from) (a .to) (now (a .file)) i (omega arith)))))
-
 add-i : tie.Need-add-i Inv-loop μ-loop
 add-i c = omega arith
 
@@ -58,21 +50,28 @@ loop-less c = omega arith
 
 loop-again : tie.Need-loop-again Inv-loop μ-loop
 loop-again c =
-    let a = c .before .before .before .before .before .before .before .before .before .args in
+    let st = c .before .before .before .before .before .before .before .before .before in
+    let a = st .args in
     let s = lowers (slice (a .from) (a .to) (now (a .file))) in
-    let l = length-lowered (a .from) (a .to) (now (a .file)) (c .before .before .before .before .before .before .before .before .before .pre .1) in
-    let i = c .before .before .before .before .before .loop .i in
-    let v = c .before .before .before .before .before .loop .inv .1 in
-    (omega arith, agree-next (now (a .word)) s i v (omega arith) (omega arith) (sym (lowers-at (a .from) (a .to) (now (a .file)) i (omega arith) ∙ sym (c .before .before .lower .ensures) ∙ c .if2 .left)))
+    let n = length-lowered (a .from) (a .to) (now (a .file)) (st .pre .1) in
+    let l = c .before .before .before .before .before .loop in
+    let q = lowers-at (a .from) (a .to) (now (a .file)) (l .i) (omega arith) in
+    let e = c .before .before .lower .ensures in (
+      omega arith,
+      ⊎-elim
+          (λ w. rw (w .1) (compared-not (l .differs) (now (a .word)) s (l .i) (l .inv .1) (omega arith) (omega arith) (λ p. w .0 .taken (e ∙ sym (p ∙ q)))))
+          (λ w. rw (w .1) (compared-next (l .differs) (now (a .word)) s (l .i) (l .inv .1) (omega arith) (omega arith) (sym (q ∙ sym e ∙ w .0 .left))))
+          (c .if2 .came),
+    )
 
-returns-3 : tie.Need-returns-3 Inv-loop μ-loop
-returns-3 c =
-    let a = c .before .before .before .before .before .args in
+returns-2 : tie.Need-returns-2 Inv-loop μ-loop
+returns-2 c =
+    let st = c .before .before .before .before .before in
+    let a = st .args in
     let s = lowers (slice (a .from) (a .to) (now (a .file))) in
-    let l = length-lowered (a .from) (a .to) (now (a .file)) (c .before .before .before .before .before .pre .1) in
-    let i = c .before .loop .i in
-    let v = c .before .loop .inv .1 in
-    sym (agree-end (now (a .word)) s i v (omega arith) (omega arith))
+    let n = length-lowered (a .from) (a .to) (now (a .file)) (st .pre .1) in
+    let l = c .before .loop in
+    sym (compared-end (l .differs) (now (a .word)) s (l .i) (l .inv .1) (omega arith) (omega arith))
 
 pub is-word-in-any-case-spec : {M : Type 1} → statement M
 is-word-in-any-case-spec =
@@ -87,8 +86,7 @@ is-word-in-any-case-spec =
     shared-slice-read-lower
     lower-requires
     shared-slice-read-if2
-    returns-2
     add-i
     loop-less
     loop-again
-    returns-3)
+    returns-2)

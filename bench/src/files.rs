@@ -1,0 +1,559 @@
+//! Files by chance: good ones, and some with a slip.
+
+use crate::frames::Random;
+use crate::reference::range;
+
+const OPENING: &str = "--CIF-BINARY-FORMAT-SECTION--";
+const CLOSING: &str = "--CIF-BINARY-FORMAT-SECTION----";
+const MARKER: &[u8] = b"\x0c\x1a\x04\xd5";
+const LINE_ENDS: [&[u8]; 3] = [b"\r\n", b"\r", b"\n"];
+const LETTERS: &[u8; 64] = b"ABCDEFGHIJKLMNOPQRSTUVWXYZabcdefghijklmnopqrstuvwxyz0123456789+/";
+
+const ELEMENT_TYPES: [&str; 6] = [
+    "unsigned 8-bit integer",
+    "signed 8-bit integer",
+    "unsigned 16-bit integer",
+    "signed 16-bit integer",
+    "unsigned 32-bit integer",
+    "signed 32-bit integer",
+];
+
+const BAD_TYPES: [&str; 6] = [
+    "signed 64-bit real",
+    "signed 24-bit integer",
+    "signed  32-bit integer",
+    "\"signed 32-bit integer",
+    "\" signed 32-bit integer\"",
+    "\"\"signed 32-bit integer\"\"",
+];
+
+/// The last one is good.
+const BAD_CONTENTS: [&str; 9] = [
+    "a; conversions",
+    "a; conversions=",
+    "a; conversions=x-CBF_PACKED",
+    "a; conversions=x-CBF_BYTE_OFFSET; conversions=x-CBF_BYTE_OFFSET",
+    "a; conversions==x-CBF_BYTE_OFFSET",
+    "a; conversions=\" x-CBF_BYTE_OFFSET\"",
+    "a; conversions=x-CBF_BYTE_OFFSET; b=\"",
+    "\"a; conversions=x-CBF_BYTE_OFFSET",
+    "\"a; conversions=x\"",
+];
+
+struct Maker<'a> {
+    random: &'a mut Random,
+    out: Vec<u8>,
+    /// Which of the line ends; 3 for a mixture.
+    line_ends: usize,
+}
+
+/// A file by the rules, but for a slip now and then.
+pub fn good(random: &mut Random) -> Vec<u8> {
+    let line_ends = random.below(4);
+    let mut maker = Maker {
+        random,
+        out: Vec::new(),
+        line_ends,
+    };
+    maker.file();
+    maker.out
+}
+
+type Headers = Vec<(String, String)>;
+
+/// Gives the header that value, whether it is there or not.
+fn set(headers: &mut Headers, name: &str, value: &str) {
+    headers.retain(|header| header.0 != name);
+    headers.push((name.into(), value.into()));
+}
+
+impl Maker<'_> {
+    fn one_in(&mut self, n: usize) -> bool {
+        self.random.below(n) == 0
+    }
+
+    fn pick<'t>(&mut self, choices: &[&'t str]) -> &'t str {
+        choices[self.random.below(choices.len())]
+    }
+
+    fn line(&mut self, text: &str) {
+        // A 10 after a 13 would not end a line of its own.
+        let joins = text.is_empty() && self.out.last() == Some(&b'\r');
+        let end = match self.line_ends {
+            3 if joins => self.random.below(2),
+            3 => self.random.below(3),
+            2 if joins => 1,
+            same => same,
+        };
+        self.out.extend_from_slice(text.as_bytes());
+        self.out.extend_from_slice(LINE_ENDS[end]);
+    }
+
+    /// Blanks, at most that many.
+    fn blanks(&mut self, most: usize) -> String {
+        let n = self.random.below(most + 1);
+        (0..n)
+            .map(|_| if self.one_in(4) { '\t' } else { ' ' })
+            .collect()
+    }
+
+    fn any_case(&mut self, text: &str) -> String {
+        match self.random.below(6) {
+            0 => text.to_ascii_lowercase(),
+            1 => text.to_ascii_uppercase(),
+            2 => text
+                .chars()
+                .map(|c| match self.random.below(2) {
+                    0 => c.to_ascii_lowercase(),
+                    _ => c.to_ascii_uppercase(),
+                })
+                .collect(),
+            _ => text.into(),
+        }
+    }
+
+    /// Characters 33 to 126, or with blanks between them; the first is a letter.
+    fn text(&mut self, length: usize, blanks: bool) -> String {
+        (0..length)
+            .map(|at| match self.random.below(8) {
+                _ if at == 0 => 'x',
+                0 if blanks => ' ',
+                1 if blanks => [' ', '\t'][self.random.below(2)],
+                _ => (33 + self.random.below(94) as u8) as char,
+            })
+            .collect()
+    }
+
+    fn file(&mut self) {
+        let blanks = match self.random.below(200) {
+            0 => " ".repeat(60 + self.random.below(20)),
+            _ => " ".to_string() + &self.blanks(3),
+        };
+        let version = self.pick(&["0.7", "1.0", "1.5", "1.3.2", "0.0", "1.9 and more"]);
+        let identifier = match self.random.below(300) {
+            0 => "##CBF: VERSION",
+            1 => "###CBF: Version",
+            2 => "###CBF:  VERSION",
+            _ => "###CBF: VERSION",
+        };
+        self.line(&format!("{identifier}{blanks}{version}"));
+        if self.one_in(200) {
+            return self.many_sections();
+        }
+        for _ in 0..self.random.below(7) {
+            self.words();
+            self.section();
+        }
+        self.words();
+        if self.one_in(3) {
+            while matches!(self.out.last(), Some(b'\r' | b'\n')) {
+                self.out.pop();
+            }
+        }
+    }
+
+    /// Text between sections.
+    fn words(&mut self) {
+        for _ in 0..self.random.below(9) {
+            if self.one_in(6) {
+                self.text_field();
+            } else {
+                let line = self.word_line();
+                self.line(&line);
+            }
+        }
+    }
+
+    fn word_line(&mut self) -> String {
+        let length = self.random.below(60);
+        match self.random.below(13) {
+            0 => String::new(),
+            1 => format!("# {}", self.text(length, true)),
+            2 | 3 => self.block_line(),
+            4 => self
+                .pick(&[" data_no", "x data_no", "data-no", "dat"])
+                .into(),
+            5 => self.pick(&[OPENING, CLOSING, "-", "###CBF"]).into(),
+            6 => self.text(80, true),
+            7 if self.one_in(60) => self.text(81, true),
+            8 if self.one_in(80) => "a\u{1}b".into(),
+            9 => format!("{} {}", self.random.next(), self.random.below(999)),
+            10 => self.pick(&["loop_", "_array_data.data", " ;", "\t"]).into(),
+            _ => self.text(length, true),
+        }
+    }
+
+    fn block_line(&mut self) -> String {
+        let length = match self.random.below(8) {
+            0 => 0,
+            1 => 30 + self.random.below(5),
+            2 => 70 + self.random.below(6),
+            _ => 1 + self.random.below(12),
+        };
+        let word = self.any_case("data_");
+        let name = self.text(length, false);
+        let rest = self.pick(&["", "", " ", "\tx", " more"]);
+        let mut line = word + &name + rest;
+        line.truncate(80);
+        line
+    }
+
+    fn text_field(&mut self) {
+        match self.random.below(4) {
+            0 => self.line(";"),
+            1 => {
+                let blanks = self.blanks(5);
+                self.line(&format!(";{blanks}"));
+            }
+            2 => self.line("; x"),
+            _ => {
+                let text = self.text(20, true);
+                self.line(&format!(";{text}"));
+                self.line(OPENING);
+            }
+        }
+        if self.one_in(4) {
+            // After a bare `;`, a boundary but for a little.
+            let near = self.pick(&[" ", "-", "x"]);
+            let line = match self.random.below(3) {
+                0 => format!("{near}{OPENING}"),
+                1 => format!("{OPENING}{near}"),
+                _ => OPENING.to_ascii_lowercase(),
+            };
+            self.line(&line);
+        } else if self.one_in(2) {
+            self.line("text");
+        }
+        for _ in 0..self.random.below(4) {
+            let line = self.word_line();
+            self.line(if line == OPENING { CLOSING } else { &line });
+        }
+        if !self.one_in(400) {
+            let end = self.pick(&[";", ";", "; data_no", ";;", "; \t"]);
+            self.line(end);
+        }
+    }
+
+    fn section(&mut self) {
+        let base64 = self.one_in(2);
+        let byte_offset = self.one_in(2);
+        let element_type = 1 + self.random.below(6);
+        let elements = match self.random.below(5) {
+            0 => 0,
+            1 => self.random.below(4),
+            2 => 16,
+            3 => self.random.below(40),
+            _ => self.random.below(150),
+        };
+        let size = match self.random.below(4) {
+            _ if !byte_offset => elements * range(element_type as u8).unwrap().2,
+            0 => elements,
+            1 => 15 * elements,
+            _ => elements + self.random.below(2 * elements + 1),
+        };
+        let mut headers = self.needed_headers(base64, size, elements);
+        self.other_headers(&mut headers, byte_offset, element_type, elements);
+        if self.one_in(20) {
+            self.slip(&mut headers);
+        }
+        for last in (1..headers.len()).rev() {
+            headers.swap(last, self.random.below(last + 1));
+        }
+        let blanks = self.blanks(2);
+        self.line(&format!(";{blanks}"));
+        self.line(OPENING);
+        for (name, value) in &headers {
+            self.header(name, value);
+        }
+        self.line("");
+        let octets = self.octets(size);
+        if base64 {
+            self.base64(&octets);
+        } else {
+            self.binary(&octets);
+        }
+        let right = !self.one_in(150);
+        self.line(if right { CLOSING } else { OPENING });
+        let blanks = match self.random.below(60) {
+            0 => " ".repeat(79 + self.random.below(2)),
+            1 => self.blanks(79),
+            2 if self.one_in(3) => "x".into(),
+            _ => self.blanks(1),
+        };
+        self.line(&format!(";{blanks}"));
+    }
+
+    /// 512 is the limit.
+    fn many_sections(&mut self) {
+        for _ in 0..510 + self.random.below(6) {
+            self.line(";");
+            self.line(OPENING);
+            for (name, value) in self.needed_headers(false, 0, 0) {
+                self.line(&format!("{name}:{value}"));
+            }
+            self.line("");
+            self.out.extend_from_slice(MARKER);
+            self.line("");
+            self.line(CLOSING);
+            self.line(";");
+        }
+    }
+
+    /// With leading zeros now and then.
+    fn number(&mut self, n: usize) -> String {
+        let digits = if self.one_in(5) {
+            1 + self.random.below(10)
+        } else {
+            1
+        };
+        format!("{n:0digits$}")
+    }
+
+    fn needed_headers(&mut self, base64: bool, size: usize, elements: usize) -> Headers {
+        let encoding = if base64 { "BASE64" } else { "BINARY" };
+        vec![
+            ("Content-Transfer-Encoding".into(), encoding.into()),
+            ("X-Binary-Size".into(), self.number(size)),
+            ("X-Binary-Number-of-Elements".into(), self.number(elements)),
+        ]
+    }
+
+    fn other_headers(
+        &mut self,
+        headers: &mut Headers,
+        byte_offset: bool,
+        element_type: usize,
+        elements: usize,
+    ) {
+        let content = self.content_type(byte_offset);
+        if byte_offset || self.one_in(2) {
+            headers.push(("Content-Type".into(), content));
+        }
+        if element_type != 5 || self.one_in(2) {
+            let value = self.perhaps_quoted(ELEMENT_TYPES[element_type - 1]);
+            headers.push(("X-Binary-Element-Type".into(), value));
+        }
+        if self.one_in(2) {
+            let value = self.perhaps_quoted("LITTLE_ENDIAN");
+            headers.push(("X-Binary-Element-Byte-Order".into(), value));
+        }
+        if self.one_in(2) {
+            let id = [1, 2, 77, 2_147_483_647][self.random.below(4)];
+            headers.push(("X-Binary-ID".into(), self.number(id)));
+        }
+        if elements > 0 && self.one_in(2) {
+            self.dimensions(headers, elements);
+        }
+        for _ in 0..self.random.below(3) {
+            let (name, value) = [
+                ("Content-MD5", "1B2M2Y8AsgTpgAmY7PhCfg=="),
+                ("X-Binary-Size-Padding", "4095"),
+                ("X-Binary-Size-", "x"),
+                ("X-Binary-Siz", "\"7"),
+                ("-", ""),
+                ("X-Binary-Size-Fourth-Dimension", "0"),
+                ("9", ": a header: with; colons ="),
+            ][self.random.below(7)];
+            headers.push((name.into(), value.into()));
+        }
+    }
+
+    fn perhaps_quoted(&mut self, value: &str) -> String {
+        match self.random.below(3) {
+            0 => value.into(),
+            _ => format!("\"{value}\""),
+        }
+    }
+
+    fn content_type(&mut self, byte_offset: bool) -> String {
+        let first = self.pick(&["application/octet-stream", "", "conversions=x", "a \"q;r\""]);
+        let between = self.pick(&["; ", ";", " ;\t", "; ;", "; n=\"; conversions=x\";"]);
+        let equals = self.pick(&["=", " = ", "=\t"]);
+        let last = self.pick(&["", "", ";", "; charset=x", "; \"conversions\"=x; =x"]);
+        let method = self.perhaps_quoted("x-CBF_BYTE_OFFSET");
+        if byte_offset {
+            format!("{first}{between}conversions{equals}{method}{last}")
+        } else {
+            format!("{first}{last}")
+        }
+    }
+
+    fn dimensions(&mut self, headers: &mut Headers, elements: usize) {
+        let divisor = |n: usize, wanted: usize| (1..=wanted).rev().find(|d| n % d == 0).unwrap();
+        let fastest = divisor(elements, 1 + self.random.below(elements));
+        let second = divisor(elements / fastest, 1 + self.random.below(20));
+        let third = elements / fastest / second;
+        let sizes = match self.random.below(3) {
+            0 => vec![elements],
+            1 => vec![fastest, elements / fastest],
+            _ => vec![fastest, second, third],
+        };
+        for (which, size) in ["Fastest", "Second", "Third"].iter().zip(sizes) {
+            let name = format!("X-Binary-Size-{which}-Dimension");
+            headers.push((name, self.number(size)));
+        }
+    }
+
+    /// Something wrong with the headers, mostly.
+    fn slip(&mut self, headers: &mut Headers) {
+        let at = self.random.below(headers.len());
+        let (name, value) = headers[at].clone();
+        match self.random.below(13) {
+            0 => _ = headers.remove(at),
+            1 => headers.push((name, value)),
+            2 | 3 => self.slip_of_number(headers),
+            4 => headers[at].1 = format!("\"{value}\""),
+            5 => headers[at].1 = self.pick(&["", "\"", "x", "0", "9999999999"]).into(),
+            6 => headers[at].1 = format!("{value} x"),
+            7 => headers[at].0 = self.pick(&["", "X_Y", "X Y", "X-Binary-Size ", ";"]).into(),
+            8 => set(headers, "X-Binary-Element-Byte-Order", "BIG_ENDIAN"),
+            9 => set(headers, "X-Binary-Size-Second-Dimension", "1"),
+            10 => set(headers, "X-Binary-Element-Type", self.pick(&BAD_TYPES)),
+            11 => set(headers, "Content-Type", self.pick(&BAD_CONTENTS)),
+            _ => {
+                // Their product is 2^64.
+                set(headers, "X-Binary-Size-Fastest-Dimension", "67108864");
+                set(headers, "X-Binary-Size-Second-Dimension", "67108864");
+                set(headers, "X-Binary-Size-Third-Dimension", "4096");
+            }
+        }
+    }
+
+    /// A number one up or down, at its limit or one above, or with a digit too many.
+    fn slip_of_number(&mut self, headers: &mut Headers) {
+        let at = self.random.below(headers.len());
+        let (name, value) = &mut headers[at];
+        let Ok(number) = value.parse::<usize>() else {
+            return;
+        };
+        let limit: usize = match name.as_str() {
+            "X-Binary-Size" => 1_073_741_824,
+            "X-Binary-ID" => 2_147_483_647,
+            _ => 67_108_864,
+        };
+        *value = match self.random.below(5) {
+            0 => format!("{}", number + 1),
+            1 => format!("{}", number.max(1) - 1),
+            2 => format!("{limit}"),
+            3 => format!("{}", limit + 1),
+            _ => format!("{number:011}"),
+        };
+    }
+
+    fn header(&mut self, name: &str, value: &str) {
+        let mut line = self.any_case(name);
+        let mut value = self.any_case(value);
+        if !self.one_in(900) {
+            line.push(':');
+        }
+        if self.one_in(10) {
+            // The whole value on the next line.
+            self.line(&line);
+            line = "\t".into();
+        }
+        if self.one_in(10) {
+            line += &self.blanks(4);
+        } else {
+            line.push(' ');
+        }
+        while let Some(blank) = self.break_at(line.len(), &value) {
+            // A blank before the break stays in the value, where a word does not bear it.
+            let more = if self.one_in(40) { " " } else { "" };
+            self.line(&format!("{line}{}{more}", &value[..blank]));
+            line = format!(" {}", self.blanks(6));
+            value.drain(..=blank);
+        }
+        line += &value;
+        if self.one_in(10) {
+            line += &self.blanks(3);
+        }
+        self.line(&line);
+        if self.one_in(30) {
+            self.line(" ");
+        }
+    }
+
+    /// A blank of the value to break the line at: where it would be too long, and by chance.
+    fn break_at(&mut self, used: usize, value: &str) -> Option<usize> {
+        if used + value.len() > 76 {
+            value[..76 - used].rfind(' ')
+        } else if self.one_in(4) {
+            value.find(' ')
+        } else {
+            None
+        }
+    }
+
+    /// Now and then with a closing inside.
+    fn octets(&mut self, size: usize) -> Vec<u8> {
+        let mut octets: Vec<u8> = (0..size).map(|_| self.random.next() as u8).collect();
+        let closing = format!("\r\n{CLOSING}\r\n;\r\n{OPENING}\n");
+        if size >= closing.len() && self.one_in(2) {
+            let at = self.random.below(size - closing.len() + 1);
+            octets[at..at + closing.len()].copy_from_slice(closing.as_bytes());
+        }
+        octets
+    }
+
+    fn binary(&mut self, octets: &[u8]) {
+        let marker: &[u8] = match self.random.below(150) {
+            0 => b"",
+            1 => &MARKER[..3],
+            _ => MARKER,
+        };
+        self.out.extend_from_slice(marker);
+        self.out.extend_from_slice(octets);
+        match self.random.below(150) {
+            0 => self.out.push(b'x'),
+            1 => _ = self.out.pop(),
+            _ => {}
+        }
+        self.line("");
+    }
+
+    fn base64(&mut self, octets: &[u8]) {
+        let mut text = base64_text(octets);
+        match self.random.below(120) {
+            0 => text.push('A'),
+            1 => text.push('='),
+            2 => _ = text.pop(),
+            3 => text.insert(self.random.below(text.len() + 1), '='),
+            4 => text.insert(self.random.below(text.len() + 1), '-'),
+            5 => text.push_str("A==="),
+            6 => text.push_str("===="),
+            _ => {}
+        }
+        let width = [76, 80, 1 + self.random.below(80)][self.random.below(3)];
+        let blanks = self.one_in(6);
+        for part in text.as_bytes().chunks(width) {
+            let part = String::from_utf8_lossy(part);
+            if blanks && part.len() < 70 {
+                let at = self.random.below(part.len());
+                let (left, right) = part.split_at(at);
+                let between = self.blanks(5);
+                self.line(&format!("{left}{between}{right}"));
+            } else {
+                self.line(&part);
+            }
+            if self.one_in(40) {
+                let blanks = self.blanks(2);
+                self.line(&blanks);
+            }
+        }
+    }
+}
+
+/// Octets as BASE64 letters, without line ends.
+pub fn base64_text(octets: &[u8]) -> String {
+    let mut text = String::new();
+    for group in octets.chunks(3) {
+        let bits = (0..3).fold(0, |n, i| n << 8 | usize::from(*group.get(i).unwrap_or(&0)));
+        for letter in 0..4 {
+            text.push(match letter {
+                _ if letter > group.len() => '=',
+                _ => LETTERS[bits >> (18 - 6 * letter) & 63] as char,
+            });
+        }
+    }
+    text
+}

@@ -1,0 +1,42 @@
+// Reads a file from standard input and prints its listing, or the line of its refusal.
+use cbf_format::LINE_LIMIT;
+use cbf_pixels::Answer;
+use cbf_pixels::Refusal;
+use libc::STDIN_FILENO;
+use libc::STDOUT_FILENO;
+
+// The text for what was read; more says that the input did not end there: "input over 65,536 bytes: `refused 4 at 0`".
+fn text(file: &[u8], more: bool, out: &mut [u8]) -> Answer {
+    if more {
+        return cbf_listing::refusal_line(
+            Refusal {
+                number: 4,
+                place: 0,
+            },
+            out,
+        );
+    }
+    cbf_listing::listing_or_refusal(file, LINE_LIMIT, out)
+}
+
+// Writes the first n bytes. Room is never wanting: 512 lines of at most 122 bytes are less than the buffer's 65,536.
+fn print(answer: Answer, out: &[u8]) {
+    match answer {
+        Answer::Refused(r) => {}
+        Answer::Length(n) => {
+            if n <= out.len() {
+                io::write_all(STDOUT_FILENO, &out[..n]);
+            }
+        }
+    }
+}
+
+fn main() {
+    let mut file = io::large_buffer();
+    let n = io::read_full(STDIN_FILENO, &mut file);
+    let mut next = [0u8; 1];
+    let more = io::read_full(STDIN_FILENO, &mut next) != 0;
+    let mut out = io::large_buffer();
+    let answer = text(&file[..n], more, &mut out);
+    print(answer, &out);
+}

@@ -1,0 +1,6 @@
+-- The laws that the proofs of the functions use.
+pub mod Puts
+pub mod DigitLaws
+pub mod OutcomeLaws
+pub mod LineTexts
+pub mod LinesLaws

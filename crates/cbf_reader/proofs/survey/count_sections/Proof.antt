@@ -1,0 +1,29 @@
+use denote.Ref.{now}
+use borrow.Author.Needs.{needs}
+use Rattle.cbf_format.specs.Files as F
+use Rattle.cbf_reader.proofs.SurveyLaws.{survey-count}
+use Rattle.cbf_reader.proofs.survey.count_sections.Statement.{statement}
+use Rattle.cbf_reader.proofs.survey.count_sections.Tie as tie
+
+survey-file-requires : tie.Need-survey-file-requires
+survey-file-requires c κs = search needs
+
+enum-known-s : tie.Need-enum-known-s
+enum-known-s c = search needs
+
+enum-known-s-2 : tie.Need-enum-known-s-2
+enum-known-s-2 c = search needs
+
+returns : tie.Need-returns
+returns c =
+    let a = c .before .before .before .before .before .args in
+    survey-count (now (a .file)) 0 (F.read (a .limit) (now (a .file))) (c .before .s .given .1) (c .before .before .before .survey-file .ensures)
+
+returns-2 : tie.Need-returns-2
+returns-2 c =
+    let a = c .before .before .before .before .before .args in
+    survey-count (now (a .file)) 0 (F.read (a .limit) (now (a .file))) (c .before .s2 .given .1) (c .before .before .before .survey-file .ensures)
+
+pub count-sections-spec : {M : Type 1} → statement M
+count-sections-spec =
+    tie.close (tie.spec survey-file-requires enum-known-s enum-known-s-2 returns returns-2)

@@ -1,0 +1,71 @@
+use Prim.Native.Nat.{_-_}
+use lib.ListN.{length}
+use denote.Ref.{now}
+use borrow.Author.Needs.{needs}
+use Rattle.cbf_reader.proofs.SurveyLaws.{Surveyed, surveyed-start, surveyed-past, surveyed-refused, surveyed-end, surveyed-less, surveyed-here, surveyed-other}
+use Rattle.cbf_reader.proofs.survey.survey_from.Statement.{statement}
+use Rattle.cbf_reader.proofs.survey.survey_from.Tie as tie
+
+abbrev Inv-loop : tie.InvT-loop
+Inv-loop file limit number cursor₀ sought₀ cursor sought = Surveyed limit file number cursor sought
+
+abbrev μ-loop : tie.MeasureT-loop
+μ-loop file limit number cursor₀ sought₀ cursor sought = length file - cursor .at
+
+loop-holds : tie.Need-loop-holds Inv-loop μ-loop
+loop-holds c =
+    let a = c .before .args in
+    let p = c .before .pre in
+    surveyed-start (a .limit) (now (a .file)) (a .number) (a .c) (p .0) (p .2)
+
+next-section-requires : tie.Need-next-section-requires Inv-loop μ-loop
+next-section-requires c κs = search needs
+
+enum-known-next : tie.Need-enum-known-next Inv-loop μ-loop
+enum-known-next c = search needs
+
+returns : tie.Need-returns Inv-loop μ-loop
+returns c = surveyed-refused (c .before .before .before .before .before .before .loop .inv) (c .before .before .before .next-section .ensures) (c .before .next .given .1)
+
+enum-told : tie.Need-enum-told Inv-loop μ-loop
+enum-told c = search needs
+
+returns-2 : tie.Need-returns-2 Inv-loop μ-loop
+returns-2 c = surveyed-end (c .before .before .before .before .before .loop .inv) (c .before .before .next-section .ensures) (c .enum-told .given .1)
+
+enum-known-next-2 : tie.Need-enum-known-next-2 Inv-loop μ-loop
+enum-known-next-2 c = search needs
+
+loop-less : tie.Need-loop-less Inv-loop μ-loop
+loop-less c = surveyed-less (c .before .before .before .before .before .before .before .before .loop .inv) (c .before .before .before .before .before .next-section .ensures) (c .before .before .before .next2 .given .1) (c .before .before .before .before .before .before .if1 .taken)
+
+loop-again : tie.Need-loop-again Inv-loop μ-loop
+loop-again c = surveyed-here (c .before .before .before .before .before .before .before .before .loop .inv) (c .before .before .before .before .before .next-section .ensures) (c .before .before .before .next2 .given .1) (c .if2 .taken)
+
+loop-less-2 : tie.Need-loop-less-2 Inv-loop μ-loop
+loop-less-2 c = surveyed-less (c .before .before .before .before .before .before .before .before .loop .inv) (c .before .before .before .before .before .next-section .ensures) (c .before .before .before .next2 .given .1) (c .before .before .before .before .before .before .if1 .taken)
+
+loop-again-2 : tie.Need-loop-again-2 Inv-loop μ-loop
+loop-again-2 c = surveyed-other (c .before .before .before .before .before .before .before .before .loop .inv) (c .before .before .before .before .before .next-section .ensures) (c .before .before .before .next2 .given .1) (c .if2 .left)
+
+returns-3 : tie.Need-returns-3 Inv-loop μ-loop
+returns-3 c = surveyed-past (c .before .before .loop .inv) (c .before .before .before .before .pre .1) (c .if1 .left)
+
+pub survey-from-spec : {M : Type 1} → statement M
+survey-from-spec =
+    tie.close
+    (tie.spec
+    Inv-loop
+    μ-loop
+    loop-holds
+    next-section-requires
+    enum-known-next
+    returns
+    enum-told
+    returns-2
+    enum-known-next-2
+    loop-less
+    loop-again
+    loop-less-2
+    loop-again-2
+    returns-3)

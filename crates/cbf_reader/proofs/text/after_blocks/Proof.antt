@@ -1,0 +1,53 @@
+use borrow.Author.Tests.{not-false}
+use Prim.Native.Nat.{_-_, _≤_}
+use native.Mathlib.Omega.{arith}
+use Rattle.cbf_reader.specs.Places.{Run}
+use Rattle.cbf_reader.specs.Classes.{inClass}
+use Rattle.cbf_reader.proofs.Texts.{run-start, run-then}
+use Rattle.cbf_reader.proofs.text.after_blocks.Statement.{statement}
+use Rattle.cbf_reader.proofs.text.after_blocks.Tie as tie
+
+abbrev Inv-loop : tie.InvT-loop
+Inv-loop file from to class i₀ i = (i ≤ to) × Run (inClass class) file from i i
+
+abbrev μ-loop : tie.MeasureT-loop
+μ-loop file from to class i₀ i = to - i
+
+loop-holds : tie.Need-loop-holds Inv-loop μ-loop
+loop-holds c = (omega arith, run-start (c .before .args .from))
+
+sub-loop : tie.Need-sub-loop Inv-loop μ-loop
+sub-loop c = omega arith
+
+block-requires : tie.Need-block-requires Inv-loop μ-loop
+block-requires c κs = omega arith
+
+returns : tie.Need-returns Inv-loop μ-loop
+returns c = (omega arith, c .before .before .before .loop .inv .1)
+
+add-i : tie.Need-add-i Inv-loop μ-loop
+add-i c = omega arith
+
+loop-less : tie.Need-loop-less Inv-loop μ-loop
+loop-less c = omega arith
+
+loop-again : tie.Need-loop-again Inv-loop μ-loop
+loop-again c = (omega arith, run-then (c .before .before .before .loop .inv .1) (c .before .block .ensures (not-false _ (c .if1 .left))))
+
+returns-2 : tie.Need-returns-2 Inv-loop μ-loop
+returns-2 c = c .before .loop .inv
+
+pub after-blocks-spec : {M : Type 1} → statement M
+after-blocks-spec =
+    tie.close
+    (tie.spec
+    Inv-loop
+    μ-loop
+    loop-holds
+    sub-loop
+    block-requires
+    returns
+    add-i
+    loop-less
+    loop-again
+    returns-2)

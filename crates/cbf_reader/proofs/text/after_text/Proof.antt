@@ -1,0 +1,59 @@
+use mathlib.Core.Path.{ap}
+use mathlib.Core.Logic.{⊎-elim}
+use Prim.Native.Nat.{_-_, _≤_}
+use native.Mathlib.Omega.{arith}
+use Rattle.cbf_format.specs.Text.{textual}
+use Rattle.cbf_reader.specs.Places.{Run}
+use Rattle.cbf_reader.proofs.Texts.{run-next, run-stop, run-weaker, plain-textual, text-between, text-under, text-over}
+use Rattle.cbf_reader.proofs.text.after_text.Statement.{statement}
+use Rattle.cbf_reader.proofs.text.after_text.Tie as tie
+
+abbrev Inv-loop : tie.InvT-loop
+Inv-loop file from to i₀ i = (i ≤ to) × Run textual file from i i
+
+abbrev μ-loop : tie.MeasureT-loop
+μ-loop file from to i₀ i = to - i
+
+after-blocks-requires : tie.Need-after-blocks-requires Inv-loop μ-loop
+after-blocks-requires c κs = omega arith
+
+loop-holds : tie.Need-loop-holds Inv-loop μ-loop
+loop-holds c = (c .after-blocks .ensures .0, run-weaker (c .after-blocks .ensures .1) plain-textual)
+
+shared-slice-read-b : tie.Need-shared-slice-read-b Inv-loop μ-loop
+shared-slice-read-b c = omega arith
+
+returns : tie.Need-returns Inv-loop μ-loop
+returns c = run-stop (c .before .before .before .before .loop .inv .1) (omega arith) (λ h. text-under _ (c .before .if1 .taken) (c .if2 .taken))
+
+returns-2 : tie.Need-returns-2 Inv-loop μ-loop
+returns-2 c = run-stop (c .before .before .before .before .loop .inv .1) (omega arith) (λ h. text-over _ (c .if3 .taken))
+
+add-i : tie.Need-add-i Inv-loop μ-loop
+add-i c = omega arith
+
+loop-less : tie.Need-loop-less Inv-loop μ-loop
+loop-less c = omega arith
+
+loop-again : tie.Need-loop-again Inv-loop μ-loop
+loop-again c =
+    (omega arith, run-next (c .before .before .before .loop .inv .1) (⊎-elim (λ w. ap textual (w .1 .left)) (λ w. text-between _ (w .0 .left) (w .1 .left)) (c .if1 .came)))
+
+returns-3 : tie.Need-returns-3 Inv-loop μ-loop
+returns-3 c = run-stop (c .before .loop .inv .1) (omega arith) (λ h. absurd (omega arith))
+
+pub after-text-spec : {M : Type 1} → statement M
+after-text-spec =
+    tie.close
+    (tie.spec
+    Inv-loop
+    μ-loop
+    after-blocks-requires
+    loop-holds
+    shared-slice-read-b
+    returns
+    returns-2
+    add-i
+    loop-less
+    loop-again
+    returns-3)

@@ -1,0 +1,63 @@
+use borrow.Author.Tests.{not-true, not-false}
+use mathlib.Core.Path.{_≡_, sym, _∙_}
+use mathlib.Core.Bool.{false, true≢false}
+use mathlib.Core.Logic.{⊎-elim}
+use Prim.Native.Nat.{_+_, _-_, _≤_}
+use native.Mathlib.Omega.{arith}
+use borrow.Author.Needs.{needs}
+use Rattle.cbf_reader.specs.Places.{Run}
+use Rattle.cbf_reader.specs.Classes.{inClass}
+use Rattle.cbf_reader.proofs.Texts.{run-start, run-next, run-to}
+use Rattle.cbf_reader.proofs.text.block.Statement.{statement}
+use Rattle.cbf_reader.proofs.text.block.Tie as tie
+
+abbrev Inv-loop : tie.InvT-loop
+Inv-loop file at class other₀ j₀ other j = (j ≤ 16) × (other ≡ false → Run (inClass class) file at (at + j) (at + j))
+
+abbrev μ-loop : tie.MeasureT-loop
+μ-loop file at class other₀ j₀ other j = 16 - j
+
+loop-holds : tie.Need-loop-holds Inv-loop μ-loop
+loop-holds c = (omega arith, λ e. run-to (run-start (c .before .args .at)) _ (omega arith))
+
+add-in-class : tie.Need-add-in-class Inv-loop μ-loop
+add-in-class c = omega arith
+
+shared-slice-read-in-class : tie.Need-shared-slice-read-in-class Inv-loop μ-loop
+shared-slice-read-in-class c = omega arith
+
+in-class-requires : tie.Need-in-class-requires Inv-loop μ-loop
+in-class-requires c κs = search needs
+
+add-j : tie.Need-add-j Inv-loop μ-loop
+add-j c = omega arith
+
+loop-less : tie.Need-loop-less Inv-loop μ-loop
+loop-less c = omega arith
+
+loop-again : tie.Need-loop-again Inv-loop μ-loop
+loop-again c =
+    let l = c .before .before .before .before .loop in (
+      omega arith,
+      ⊎-elim (λ w e. absurd (true≢false (sym (w .1) ∙ e)))
+          (λ w e. run-to (run-next (l .inv .1 (sym (w .1) ∙ e)) (sym (c .before .in-class .ensures) ∙ not-false _ (w .0 .left))) _ (omega arith))
+          (c .if1 .came),
+    )
+
+returns : tie.Need-returns Inv-loop μ-loop
+returns c e = run-to (c .before .loop .inv .1 (not-true _ e)) _ (omega arith)
+
+pub block-spec : {M : Type 1} → statement M
+block-spec =
+    tie.close
+    (tie.spec
+    Inv-loop
+    μ-loop
+    loop-holds
+    add-in-class
+    shared-slice-read-in-class
+    in-class-requires
+    add-j
+    loop-less
+    loop-again
+    returns)
