@@ -1,17 +1,17 @@
--- Lines and runs of bytes are tame, and a line moves. Assumes nothing.
+-- Lines and runs of bytes are tame, a line moves, and a text line is no longer than its limit. Assumes nothing.
 use mathlib.Core.Path.{_≡_, refl, sym, ap, _∙_}
-use mathlib.Core.Option.{Option, none, some}
+use mathlib.Core.Option.{Option, none, some, Option·some-ne-none}
 use mathlib.Core.Bool.{Bool, true, false, _&&_, cond}
 use mathlib.Core.List.{List, [], _∷_, _++_}
-use Prim.Native.Nat.{ℕ, suc, _≤_, _<_}
+use Prim.Native.Nat.{ℕ, suc, _+_, _≤_, _<_}
 use native.Mathlib.Omega.{arith}
-use lib.Dec.{leb, eqb}
-use borrow.Author.Tests.{le-leb, leb-true, eq-eqb, eqb-true}
+use lib.Dec.{leb, ltb, eqb}
+use borrow.Author.Tests.{le-leb, leb-true, ltb-true, eq-eqb, eqb-true}
 use lib.ListN.{length, take, length-append}
 use lib.Seq.{take-at}
 use Rattle.cbf_walk.specs.Parsers.{Res, bad, cut, ok, hd, Tame, Moves}
-use Rattle.cbf_walk.proofs.ParserLaws.{hd-app, bad≢ok, cut≢ok, ok-val, ok-num, screen-tame, counted-tame}
-use Rattle.cbf_format.specs.Text.{same}
+use Rattle.cbf_walk.proofs.ParserLaws.{hd-app, bad≢ok, cut≢ok, ok-val, ok-num, unscreen, screen-tame, counted-tame}
+use Rattle.cbf_format.specs.Text.{textual, same}
 use Rattle.cbf_format.specs.Lines.{endLength, addByte, lineOr, line, refusedByte, textLine, onlyEnd, lineEnd, octets, word, semicolon, semicolonLine}
 use Rattle.cbf_format.specs.Headers.{orMalformed, malformed, headerLine}
 
@@ -90,6 +90,22 @@ line-hd (y ∷ s) x t n e = go (eqb y 10) (eqb y 13) e
 pub textLine-tame : (limit : ℕ) → Tame (textLine limit)
 unfolding textLine
 textLine-tame limit = screen-tame (refusedByte limit 0) line-tame
+
+-- the bytes of an accepted text line from column i on
+bytes-short : (limit i : ℕ) (t : List ℕ) → i ≤ limit → refusedByte limit i t ≡ none → i + length t ≤ limit
+bytes-short limit i [] h e = omega arith
+bytes-short limit i (x ∷ t) h e = go (textual x) (ltb i limit) refl e (λ h e. bytes-short limit (suc i) t h e)
+  where
+    go : (b c : Bool) → ltb i limit ≡ c → cond b (cond c (refusedByte limit (suc i) t) (some (2, i))) (some (3, i)) ≡ none
+        → (suc i ≤ limit → refusedByte limit (suc i) t ≡ none → suc i + length t ≤ limit) → i + suc (length t) ≤ limit
+    go true true q e ih = omega (arith, ih (ltb-true i limit q) e)
+    go true false q e ih = absurd (Option·some-ne-none (2, i) e)
+    go false c q e ih = absurd (Option·some-ne-none (3, i) e)
+
+-- an accepted text line has at most `limit` characters
+pub textLine-short : (limit : ℕ) (s t : List ℕ) (n : ℕ) → textLine limit s ≡ ok t n → length t ≤ limit
+unfolding textLine
+textLine-short limit s t n e = omega (arith, bytes-short limit 0 t (omega arith) (unscreen (refusedByte limit 0) (line s) t n e .1))
 
 pub lineEnd-tame : Tame lineEnd
 unfolding lineEnd

@@ -1,27 +1,25 @@
 -- How long a listing is: of each number, of each block name, of the list of sections, and of the whole. Assumes nothing.
 use mathlib.Core.Path.{_≡_, refl, ap}
-use mathlib.Core.Option.{Option, none, some, Option·some-ne-none}
+use mathlib.Core.Option.{Option, none, some}
 use mathlib.Core.Bool.{Bool, true, false, cond}
 use mathlib.Core.List.{List, [], _∷_, _++_}
 use Prim.Native.Nat.{ℕ, zero, suc, _+_, _*_, _/_, _%_, _≤_}
 use native.Mathlib.Nat.{mul-le-mul-right}
 use native.Mathlib.Omega.{arith}
 use lib.Dec.{ltb}
-use borrow.Author.Tests.{ltb-true}
 use lib.ListN.{length, take, drop, length-append, length-drop}
 use Rattle.cbf_walk.specs.Parsers.{ok}
 use Rattle.cbf_walk.specs.Reading.{good, flat, Good}
 use Rattle.cbf_walk.specs.Edits.{sections as count}
-use Rattle.cbf_walk.proofs.ParserLaws.{unscreen}
 use Rattle.cbf_pixels.specs.declared.ElementType.{ElementType}
 use Rattle.cbf_pixels.specs.declared.ElementType.the-variants.{U8, S8, U16, S16, U32, S32}
 use Rattle.cbf_pixels.specs.declared.Compression.{Compression}
 use Rattle.cbf_pixels.specs.declared.Compression.the-variants.{Uncompressed, ByteOffset}
-use Rattle.cbf_format.specs.Text.{bytes, blank, textual, lowers, same}
-use Rattle.cbf_format.specs.Lines.{line, refusedByte, textLine}
+use Rattle.cbf_format.specs.Text.{bytes, blank, lowers, same}
 use Rattle.cbf_format.specs.Sections.{Section}
 use Rattle.cbf_format.specs.Files.{Field, first-line, outside, opened, inside, State, start, due, upToBlank, nextBlock, stepLine, step, Tree, read}
 use Rattle.cbf_format.specs.Listing.{Placed, addPlaced, sections, position, digitsOf, compressionName, typeName, named, sectionText, sectionLine, sectionLines, listing}
+use Rattle.cbf_format.proofs.LineTame.{textLine-short}
 use Rattle.cbf_format.proofs.FileLaws.{passed, took, Took, accepted, sections-most}
 
 -- ---- numbers
@@ -37,22 +35,6 @@ digits-short (suc f) n = go (ltb n 10) (digits-short f (n / 10))
     go false h = simp length-append (omega arith)
 
 -- ---- block names
-
--- the bytes of an accepted text line from column i on
-bytes-short : (limit i : ℕ) (t : List ℕ) → i ≤ limit → refusedByte limit i t ≡ none → i + length t ≤ limit
-bytes-short limit i [] h e = omega arith
-bytes-short limit i (x ∷ t) h e = go (textual x) (ltb i limit) refl e (λ h e. bytes-short limit (suc i) t h e)
-  where
-    go : (b c : Bool) → ltb i limit ≡ c → cond b (cond c (refusedByte limit (suc i) t) (some (2, i))) (some (3, i)) ≡ none
-        → (suc i ≤ limit → refusedByte limit (suc i) t ≡ none → suc i + length t ≤ limit) → i + suc (length t) ≤ limit
-    go true true q e ih = omega (arith, ih (ltb-true i limit q) e)
-    go true false q e ih = absurd (Option·some-ne-none (2, i) e)
-    go false c q e ih = absurd (Option·some-ne-none (3, i) e)
-
--- an accepted text line has at most `limit` characters
-pub textLine-short : (limit : ℕ) (s t : List ℕ) (n : ℕ) → textLine limit s ≡ ok t n → length t ≤ limit
-unfolding textLine
-textLine-short limit s t n e = omega (arith, bytes-short limit 0 t (omega arith) (unscreen (refusedByte limit 0) (line s) t n e .1))
 
 upToBlank-short : (t : List ℕ) → length (upToBlank t) ≤ length t
 upToBlank-short [] = omega arith

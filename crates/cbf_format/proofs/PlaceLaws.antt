@@ -10,7 +10,7 @@ use borrow.Author.Tests.{leb-true}
 use lib.ListN.{length, take, drop}
 use Rattle.cbf_walk.specs.Parsers.{Res, bad, cut, ok, Parser, ret, plus, counted, screen, blame, onward, bind}
 use Rattle.cbf_walk.specs.Reading.{Item, Reading, refused, good}
-use Rattle.cbf_walk.proofs.ParserLaws.{cut≢ok, ok-val, uncount, unscreen, counted-tame, screen-tame, blame-tame, onward-tame}
+use Rattle.cbf_walk.proofs.ParserLaws.{cut≢ok, ok-val, uncount, unscreen, unonward, counted-tame, screen-tame, blame-tame, onward-tame}
 use Rattle.cbf_walk.proofs.PlaceLaws.{Gives, bind-gives, Within, TestWithin, passes, refuses, ReadingWithin, RefusesWithin, cond-within, ret-within, cut-within, counted-within, screen-within, blame-within, onward-within, bind-within, read-within}
 use Rattle.cbf_format.specs.Text.{textual, same, skip}
 use Rattle.cbf_format.specs.Lines.{lineOr, line, refusedByte, textLine, octets, word}
@@ -24,7 +24,7 @@ use Rattle.cbf_format.specs.Sections.{closing, marker, fileLimit, closed
 use Rattle.cbf_format.specs.Files.{identified, refusedFirst, Field, first-line, outside, opened, inside, State, start, due, afterLine, afterSection, isBoundary, oneTooMany, stepLine, sectionOr, afterStepLine, step, readSome, read}
 use Rattle.cbf_format.proofs.LineTame.{and-true, line-tame, headerLine-tame, octets-tame, word-tame}
 use Rattle.cbf_format.proofs.SectionTame.{headerLines-tame, headers-tame, closed-tame, binaryOf, letters-tame, text, afterText, dataFor-tame, afterHeaders, section-tame}
-use Rattle.cbf_format.proofs.SectionLaws.{line-rest, unonward, letters-end}
+use Rattle.cbf_format.proofs.SectionLaws.{line-rest, letters-end}
 use Rattle.cbf_format.proofs.FileLaws.{lineOf, stepLine-tame, step-tame}
 
 -- the numbers of the refusals of reading, as a test: `refl` at each

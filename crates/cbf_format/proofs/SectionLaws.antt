@@ -11,7 +11,7 @@ use borrow.Author.Tests.{le-leb}
 use lib.ListN.{length, drop}
 use lib.Seq.{drop-drop}
 use Rattle.cbf_walk.specs.Parsers.{Res, ok, Parser, ret, counted, screen, blame, onward, bind}
-use Rattle.cbf_walk.proofs.ParserLaws.{Unbound, bad≢ok, cut≢ok, ok-val, ok-num, unbind, bind-at, uncount, unscreen, unblame}
+use Rattle.cbf_walk.proofs.ParserLaws.{Unbound, bad≢ok, cut≢ok, ok-val, ok-num, unbind, bind-at, uncount, unscreen, unblame, unonward}
 use Rattle.cbf_format.specs.Text.{same}
 use Rattle.cbf_format.specs.Lines.{lineOr, line, onlyEnd, lineEnd, octets, word, semicolon, semicolonLine}
 use Rattle.cbf_format.specs.declared.Encoding.{Encoding}
@@ -135,10 +135,6 @@ pub record Ends (boundary s : List ℕ) (at : ℕ) (l : Letters) (n : ℕ) : Typ
   pub place : at + before ≡ l .closing
   pub sum : before + last ≡ n
   pub is-line : line (drop before s) ≡ ok boundary last
-
-pub unonward : {A : Type 0} (p : Parser A) (s : List ℕ) (a : A) (n : ℕ) → onward p s ≡ ok a n → p s ≡ ok a n
-unonward p [] a n e = absurd (cut≢ok e)
-unonward p (x ∷ s) a n e = e
 
 pub letters-end : (limit : ℕ) (boundary : List ℕ) (f at : ℕ) (s : List ℕ) (l : Letters) (n : ℕ) → letters limit boundary f at s ≡ ok l n → Ends boundary s at l n
 unfolding letters

@@ -14,7 +14,7 @@ use borrow.Author.Tests.{eq-eqb, eqb-true}
 use Rattle.cbf_walk.specs.Parsers.{Res, bad, cut, ok, Parser, hd, ret, counted, onward}
 use Rattle.cbf_format.specs.Text.{blank, skip, trim}
 use Rattle.cbf_format.specs.Lines.{line, lineOr, endLength, refusedByte}
-use Rattle.cbf_walk.proofs.ParserLaws.{cut≢ok, ok-val, unbind, uncount, unscreen}
+use Rattle.cbf_walk.proofs.ParserLaws.{cut≢ok, ok-val, unbind, uncount, unscreen, unonward}
 use Rattle.cbf_format.specs.Headers.{nameByte, addName, splitColon, someName, continues, malformed, orMalformed, headerLine, HeaderLines, addLine, moreLines, headerLines, Grouped, group}
 use Rattle.cbf_reader.specs.Places.{Run}
 use Rattle.cbf_reader.specs.HeaderPlaces.{Fresh}
@@ -298,10 +298,6 @@ abbrev pub Formed : Bool → List (ℕ × List ℕ) → Type 0
 Formed first [] = Unit {0}
 Formed first ((at, []) ∷ ls) = ⊥
 Formed first ((at, x ∷ t) ∷ ls) = (malformed first (x ∷ t) ≡ false) × Formed false ls
-
-unonward : {A : Type 0} (p : Parser A) (s : List ℕ) (a : A) (n : ℕ) → onward p s ≡ ok a n → p s ≡ ok a n
-unonward p [] a n e = absurd (cut≢ok e)
-unonward p (x ∷ s) a n e = e
 
 -- the header lines that are read lie one after another
 pub lines-lie : (limit f : ℕ) (first : Bool) (at : ℕ) (s r : List ℕ) (hs : HeaderLines) (n : ℕ) → drop at s ≡ r → headerLines limit f first at r ≡ ok hs n → Lying s at (hs .lines) × Formed first (hs .lines)

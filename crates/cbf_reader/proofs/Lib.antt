@@ -19,4 +19,5 @@ pub mod DataLaws
 pub mod StepLaws
 pub mod SectionCounts
 pub mod WalkLaws
+pub mod LoopLaws
 pub mod SurveyLaws

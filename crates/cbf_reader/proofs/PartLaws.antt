@@ -17,27 +17,10 @@ use Rattle.cbf_format.specs.declared.Conversion.the-variants.{Unseen, Seen, Wro
 use Rattle.cbf_reader.specs.Places.{Run}
 use Rattle.cbf_reader.specs.declared.text.Class.the-variants.{Not}
 use Rattle.cbf_reader.specs.Classes.{inClass}
-use Rattle.cbf_reader.specs.Values.{Within, in-text, after-13, in-blanks, joinedFrom, joined, blankOrEnd, partThen, laterParts, someOf, endByte}
-use Rattle.cbf_reader.proofs.ValueLaws.{Adds, itself, a-space, nothing, step, not-end, not-blank, differs, joined-byte, after-return, blanks-over, joined-empty}
+use Rattle.cbf_reader.specs.Values.{Within, in-text, joinedFrom, joined, blankOrEnd, partThen, laterParts, someOf}
+use Rattle.cbf_reader.proofs.ValueLaws.{Adds, itself, a-space, nothing, step, split-from, joined-empty}
 
 -- ---- where joining splits
-
--- a byte that is no blank and no line end is read as itself, and the text after it as if it stood alone
-from-byte : (w : Within) (x : ℕ) (b : List ℕ) → blankOrEnd x ≡ false → joinedFrom w (x ∷ b) ≡ x ∷ joined b
-unfolding joined
-from-byte in-text x b h = joined-byte x b (not-end x h)
-from-byte in-blanks x b h = blanks-over (x ∷ b) (not-blank x h) ∙ joined-byte x b (not-end x h)
-from-byte after-13 x b h = after-return (x ∷ b) (differs endByte false x 10 (not-end x h) refl) ∙ blanks-over (x ∷ b) (not-blank x h) ∙ joined-byte x b (not-end x h)
-
-split-from : (w : Within) (a : List ℕ) (x : ℕ) (b : List ℕ) → blankOrEnd x ≡ false → joinedFrom w (a ++ (x ∷ b)) ≡ joinedFrom w a ++ (x ∷ joined b)
-unfolding joinedFrom
-split-from w [] x b h = from-byte w x b h
-split-from w (y ∷ a) x b h =
-    let s = step w y in
-    s .steps (a ++ (x ∷ b))
-    ∙ ap (λ (l : List ℕ). s .bytes ++ l) (split-from (s .after) a x b h)
-    ∙ sym (append-assoc (s .bytes) (joinedFrom (s .after) a) (x ∷ joined b))
-    ∙ ap (λ (l : List ℕ). l ++ (x ∷ joined b)) (sym (s .steps a))
 
 -- one more byte at the end
 record Grown (w : Within) (t : List ℕ) (x : ℕ) : Type 0 where

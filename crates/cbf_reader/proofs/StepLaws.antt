@@ -21,7 +21,9 @@ use Rattle.cbf_format.specs.Descriptions as D
 use Rattle.cbf_format.specs.declared.Encoding.{Encoding}
 use Rattle.cbf_format.proofs.SectionTame.{headers-tame, section-tame}
 use Rattle.cbf_reader.specs.Places.{Run, lineAt}
-use Rattle.cbf_reader.specs.StepPlaces.{fieldAt, Back, CursorOf, Ready, lineOfField, notBlank, NextBlock, sectionReadAt, sectionStep, StepSays}
+use Rattle.cbf_reader.specs.Classes.{inClass}
+use Rattle.cbf_reader.specs.declared.text.Class.the-variants.{NotBlank}
+use Rattle.cbf_reader.specs.StepPlaces.{fieldAt, Back, CursorOf, Ready, lineOfField, NextBlock, sectionReadAt, sectionStep, StepSays}
 use Rattle.cbf_reader.specs.declared.value.Range.{Range}
 use Rattle.cbf_reader.specs.declared.step.Field.{Field}
 use Rattle.cbf_reader.specs.declared.step.Field.the-variants.{First, Outside, Opened, Inside}
@@ -134,7 +136,7 @@ abbrev dataWord : List ℕ
 dataWord = bytes "data_"
 
 module _ (file : List ℕ) where
-  pub up-to-run : {from to r : ℕ} → Run notBlank file from to r → to ≤ length file → F.upToBlank (slice from to file) ≡ slice from r file
+  pub up-to-run : {from to r : ℕ} → Run (inClass NotBlank) file from to r → to ≤ length file → F.upToBlank (slice from to file) ≡ slice from r file
   up-to-run {from} {to} {r} run fits =
       by-run (λ (j : ℕ). F.upToBlank (slice j to file) ≡ slice j r file) run
       (λ j h k e ih.
@@ -189,7 +191,7 @@ module _ (file : List ℕ) where
       pub block-other : false ≡ same dataWord (lowers (slice at (at + 5) file)) → block .from ≤ block .to → block .to ≤ length file → NextBlock file at to block block
       block-other e l k = record { named = sym (ap named (word false e)); low = l; high = k }
 
-      pub block-named : true ≡ same dataWord (lowers (slice at (at + 5) file)) → (r : ℕ) → Run notBlank file (at + 5) to r
+      pub block-named : true ≡ same dataWord (lowers (slice at (at + 5) file)) → (r : ℕ) → Run (inClass NotBlank) file (at + 5) to r
           → NextBlock file at to block (record { from = at + 5; to = r })
       block-named e r run =
           record {

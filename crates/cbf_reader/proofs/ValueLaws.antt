@@ -333,7 +333,7 @@ or-left true b h = h
 pub not-end : (x : ℕ) → blankOrEnd x ≡ false → endByte x ≡ false
 not-end x h = or-left (endByte x) (blank x) h
 
-pub not-blank : (x : ℕ) → blankOrEnd x ≡ false → blank x ≡ false
+not-blank : (x : ℕ) → blankOrEnd x ≡ false → blank x ≡ false
 not-blank x h = ap (λ (b : Bool). b || blank x) (sym (not-end x h)) ∙ h
 
 front : (x : ℕ) (t : List ℕ) → blankOrEnd x ≡ true → skip (joined (x ∷ t)) ≡ skip (joined t)
@@ -411,17 +411,22 @@ back : (t : List ℕ) (x : ℕ) → blankOrEnd x ≡ true → trim (joined (t ++
 unfolding joined
 back t x h = trim-skip (joined (t ++ (x ∷ []))) ∙ ap skip (back-from in-text t x h) ∙ sym (trim-skip (joined t))
 
-last-from : (w : Within) (t : List ℕ) (x : ℕ) → blankOrEnd x ≡ false → joinedFrom w (t ++ (x ∷ [])) ≡ joinedFrom w t ++ (x ∷ [])
+-- a byte that is no blank and no line end is read as itself, and the text after it as if it stood alone
+from-byte : (w : Within) (x : ℕ) (b : List ℕ) → blankOrEnd x ≡ false → joinedFrom w (x ∷ b) ≡ x ∷ joined b
+unfolding joined
+from-byte in-text x b h = joined-byte x b (not-end x h)
+from-byte in-blanks x b h = blanks-over (x ∷ b) (not-blank x h) ∙ joined-byte x b (not-end x h)
+from-byte after-13 x b h = after-return (x ∷ b) (differs endByte false x 10 (not-end x h) refl) ∙ blanks-over (x ∷ b) (not-blank x h) ∙ joined-byte x b (not-end x h)
+
+pub split-from : (w : Within) (a : List ℕ) (x : ℕ) (b : List ℕ) → blankOrEnd x ≡ false → joinedFrom w (a ++ (x ∷ b)) ≡ joinedFrom w a ++ (x ∷ joined b)
 unfolding joinedFrom
-last-from in-text [] x h = rw (differs endByte false x 13 (not-end x h) refl, differs endByte false x 10 (not-end x h) refl)
-last-from after-13 [] x h = rw (differs endByte false x 10 (not-end x h) refl, differs endByte false x 13 (not-end x h) refl, not-blank x h)
-last-from in-blanks [] x h = rw (differs endByte false x 10 (not-end x h) refl, differs endByte false x 13 (not-end x h) refl, not-blank x h)
-last-from w (y ∷ t) x h =
+split-from w [] x b h = from-byte w x b h
+split-from w (y ∷ a) x b h =
     let s = step w y in
-    s .steps (t ++ (x ∷ []))
-    ∙ ap (λ (l : List ℕ). s .bytes ++ l) (last-from (s .after) t x h)
-    ∙ sym (append-assoc (s .bytes) (joinedFrom (s .after) t) (x ∷ []))
-    ∙ ap (λ (l : List ℕ). l ++ (x ∷ [])) (sym (s .steps t))
+    s .steps (a ++ (x ∷ b))
+    ∙ ap (λ (l : List ℕ). s .bytes ++ l) (split-from (s .after) a x b h)
+    ∙ sym (append-assoc (s .bytes) (joinedFrom (s .after) a) (x ∷ joined b))
+    ∙ ap (λ (l : List ℕ). l ++ (x ∷ joined b)) (sym (s .steps a))
 
 trimEnd-last : (l : List ℕ) (x : ℕ) → blank x ≡ false → trimEnd (l ++ (x ∷ [])) ≡ l ++ (x ∷ [])
 trimEnd-last [] x h = rw h
@@ -434,9 +439,9 @@ trimEnd-last (y ∷ l) x h = ap (addEnd y) (trimEnd-last l x h) ∙ kept l
 -- ---- the blanks at both ends, in the file
 
 trim-none : (x : ℕ) (t s : List ℕ) (y : ℕ) → x ∷ t ≡ s ++ (y ∷ []) → blankOrEnd x ≡ false → blankOrEnd y ≡ false → trim (joined (x ∷ t)) ≡ joined (x ∷ t)
-unfolding joined
+unfolding joined joinedFrom
 trim-none x t s y e p q =
-    let j : joined (x ∷ t) ≡ joined s ++ (y ∷ []) = ap joined e ∙ last-from in-text s y q in
+    let j : joined (x ∷ t) ≡ joined s ++ (y ∷ []) = ap joined e ∙ split-from in-text s y [] q in
     ap (λ (l : List ℕ). trimEnd (skip l)) (joined-byte x t (not-end x p))
     ∙ ap trimEnd (skip-other x (joined t) (not-blank x p))
     ∙ ap trimEnd (sym (joined-byte x t (not-end x p)) ∙ j)
@@ -452,8 +457,8 @@ module _ (file : List ℕ) (a b : ℕ) (lt : a < b) (fits : b ≤ length file) w
       ∙ drop-append-le a (take (b - 1) file) (getD file (b - 1) 0 ∷ []) (omega (arith, length-take-le (b - 1) file (omega arith)))
 
   pub joined-back : blankOrEnd (getD file (b - 1) 0) ≡ false → joined (slice a b file) ≡ joined (slice a (b - 1) file) ++ (getD file (b - 1) 0 ∷ [])
-  unfolding joined
-  joined-back h = ap joined slice-last ∙ last-from in-text (slice a (b - 1) file) (getD file (b - 1) 0) h
+  unfolding joined joinedFrom
+  joined-back h = ap joined slice-last ∙ split-from in-text (slice a (b - 1) file) (getD file (b - 1) 0) [] h
 
   pub trim-front : blankOrEnd (getD file a 0) ≡ true → trim (joined (slice a b file)) ≡ trim (joined (slice (a + 1) b file))
   trim-front h =

@@ -1,14 +1,13 @@
 -- A step of reading, at a place of the file.
 use mathlib.Core.Path.{_≡_}
 use mathlib.Core.Option.{Option, none, some}
-use mathlib.Core.Bool.{Bool, not, cond}
+use mathlib.Core.Bool.{cond}
 use mathlib.Core.List.{List}
 use Prim.Native.Nat.{ℕ, _+_, _-_, _≤_}
 use lib.Dec.{leb}
 use lib.ListN.{length}
 use lib.Seq.{slice}
 use Rattle.cbf_walk.specs.Parsers.{Res, bad, cut, ok, ret, plus, bind}
-use Rattle.cbf_format.specs.Text.{blank}
 use Rattle.cbf_format.specs.Sections as S
 use Rattle.cbf_format.specs.Files as F
 use Rattle.cbf_reader.specs.Places.{lineAt}
@@ -64,10 +63,6 @@ pub record Ready (file : List ℕ) (c : Cursor) : Type 0 where
   pub block-low : c .block .from ≤ c .block .to
   pub block-high : c .block .to ≤ length file
   pub stands : (f : F.Field) × (Back (c .at) f × (c .field ≡ fieldAt (c .at) f))
-
--- the bytes of a name
-abbrev pub notBlank : ℕ → Bool
-notBlank x = not (blank x)
 
 -- the block's name after a line
 pub record NextBlock (file : List ℕ) (at to : ℕ) (block r : Range) : Type 0 where

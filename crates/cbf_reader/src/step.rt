@@ -20,7 +20,9 @@ ghost use Rattle.cbf_format.specs.Text.{same};
 ghost use Rattle.cbf_format.specs.Sections.{fileLimit, opening, section as sectionOf};
 ghost use Rattle.cbf_format.specs.Files as F;
 ghost use Rattle.cbf_reader.specs.Places.{Run};
-ghost use Rattle.cbf_reader.specs.StepPlaces.{lineOfField, fieldAt, Back, NextBlock, sectionReadAt, notBlank, Ready, CursorOf, StepSays, sectionStep};
+ghost use Rattle.cbf_reader.specs.declared.text.Class.the-variants.{NotBlank};
+ghost use Rattle.cbf_reader.specs.Classes.{inClass};
+ghost use Rattle.cbf_reader.specs.StepPlaces.{lineOfField, fieldAt, Back, NextBlock, sectionReadAt, Ready, CursorOf, StepSays, sectionStep};
 
 // The state between two lines: in a text field, the place of its opening `;`.
 pub enum Field {
@@ -88,7 +90,7 @@ fn section_at(file: &[u8], from: usize, at: usize, block: Range, limit: usize) -
 // The first place from `from` on that is `to` or holds a blank.
 fn up_to_blank(file: &[u8], from: usize, to: usize) -> usize
     requires { ⌜ (from ≤ to) × (to ≤ length (now file)) ⌝ }
-    ensures { λ r. ⌜ Run notBlank (now (file .entry)) from to r ⌝ }
+    ensures { λ r. ⌜ Run (inClass NotBlank) (now (file .entry)) from to r ⌝ }
 {
     text::after(file, from, to, Class::NotBlank)
 }

@@ -159,6 +159,10 @@ module _ {A : Type 0} where
 
   -- ---- a parser that needs a byte
 
+  pub unonward : (p : Parser A) (s : List ℕ) (a : A) (n : ℕ) → onward p s ≡ ok a n → p s ≡ ok a n
+  unonward p [] a n e = absurd (cut≢ok e)
+  unonward p (x ∷ s) a n e = e
+
   pub onward-tame : {p : Parser A} → Tame p → Tame (onward p)
   onward-tame {p} t = record { within = within; near = near }
     where

@@ -168,6 +168,19 @@ module _ {A : Type 0} where
   onto-end [] = refl
   onto-end (b ∷ l) = ap (cons b) (onto-end l)
 
+  -- items before a good reading are its first ones
+  pub onto-good : (a : List A) (r : Reading A) (l : List A) → onto a r ≡ good l → (b : List A) × (l ≡ a ++ b)
+  unfolding onto
+  onto-good [] r l e = (l, refl)
+  onto-good (x ∷ a) r l e = go (onto a r) (λ m h. onto-good a r m h) e
+    where
+      go : (y : Reading A) → ((m : List A) → y ≡ good m → (b : List A) × (m ≡ a ++ b)) → cons x y ≡ good l → (b : List A) × (l ≡ x ∷ (a ++ b))
+      go (refused k p) ih e = absurd (refused≢good e)
+      go (good m) ih e =
+          let h : l ≡ x ∷ m = cc in
+          let i = ih m refl in
+          (i .0, h ∙ ap (λ (z : List A). x ∷ z) (i .1))
+
 module _ {St Info : Type 0} (ended : ℕ) (step : St → Parser (Option Info × St)) (due : St → Option ℕ) (f : ℕ) (s : List ℕ) where
   abbrev from : ℕ → St → Reading (Item St Info)
   from at st = fromOf ended step due f s at st

@@ -4,7 +4,8 @@ use native.Mathlib.Omega.{arith}
 use lib.ListN.{length}
 use denote.Ref.{now}
 use borrow.Author.Needs.{needs}
-use Rattle.cbf_listing.proofs.LinesLaws.{Listed, listed-start, listed-kept, listed-past, listed-refused, listed-end, listed-less, listed-block, listed-room, listed-written, listed-measured}
+use Rattle.cbf_reader.proofs.LoopLaws.{loop-onward}
+use Rattle.cbf_listing.proofs.LinesLaws.{Listed, listed-start, listed-kept, listed-past, listed-refused, listed-end, listed-block, listed-room, listed-written, listed-measured}
 use Rattle.cbf_listing.proofs.lines.lines_from.Statement.{statement}
 use Rattle.cbf_listing.proofs.lines.lines_from.Tie as tie
 
@@ -63,12 +64,12 @@ line-length-requires c κs =
 add-at : tie.Need-add-at Inv-loop μ-loop
 add-at c =
     let k = c .before .before .before .before .before .before .before .before .loop .inv in
-    omega (arith, k .bound, k .come .ready .few, c .line-length .ensures .1)
+    omega (arith, k .bound, k .here .come .ready .few, c .line-length .ensures .1)
 
 loop-less : tie.Need-loop-less Inv-loop μ-loop
 loop-less c =
     let t = c .before .before .before .before .before .before in
-    listed-less (t .before .before .before .before .before .loop .inv) (t .before .before .next-section .ensures) (t .next2 .given .1) (t .before .before .before .if1 .taken)
+    loop-onward (t .before .before .before .before .before .loop .inv .here) (t .before .before .next-section .ensures) (t .next2 .given .1) (t .before .before .before .if1 .taken)
 
 loop-again : tie.Need-loop-again Inv-loop μ-loop
 loop-again c =
@@ -78,7 +79,7 @@ loop-again c =
 loop-less-2 : tie.Need-loop-less-2 Inv-loop μ-loop
 loop-less-2 c =
     let t = c .before .before .before in
-    listed-less (t .before .before .before .before .before .loop .inv) (t .before .before .next-section .ensures) (t .next2 .given .1) (t .before .before .before .if1 .taken)
+    loop-onward (t .before .before .before .before .before .loop .inv .here) (t .before .before .next-section .ensures) (t .next2 .given .1) (t .before .before .before .if1 .taken)
 
 loop-again-2 : tie.Need-loop-again-2 Inv-loop μ-loop
 loop-again-2 c =

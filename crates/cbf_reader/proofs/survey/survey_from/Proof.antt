@@ -2,7 +2,8 @@ use Prim.Native.Nat.{_-_}
 use lib.ListN.{length}
 use denote.Ref.{now}
 use borrow.Author.Needs.{needs}
-use Rattle.cbf_reader.proofs.SurveyLaws.{Surveyed, surveyed-start, surveyed-past, surveyed-refused, surveyed-end, surveyed-less, surveyed-here, surveyed-other}
+use Rattle.cbf_reader.proofs.LoopLaws.{loop-onward}
+use Rattle.cbf_reader.proofs.SurveyLaws.{Surveyed, surveyed-start, surveyed-past, surveyed-refused, surveyed-end, surveyed-here, surveyed-other}
 use Rattle.cbf_reader.proofs.survey.survey_from.Statement.{statement}
 use Rattle.cbf_reader.proofs.survey.survey_from.Tie as tie
 
@@ -37,13 +38,13 @@ enum-known-next-2 : tie.Need-enum-known-next-2 Inv-loop μ-loop
 enum-known-next-2 c = search needs
 
 loop-less : tie.Need-loop-less Inv-loop μ-loop
-loop-less c = surveyed-less (c .before .before .before .before .before .before .before .before .loop .inv) (c .before .before .before .before .before .next-section .ensures) (c .before .before .before .next2 .given .1) (c .before .before .before .before .before .before .if1 .taken)
+loop-less c = loop-onward (c .before .before .before .before .before .before .before .before .loop .inv .here) (c .before .before .before .before .before .next-section .ensures) (c .before .before .before .next2 .given .1) (c .before .before .before .before .before .before .if1 .taken)
 
 loop-again : tie.Need-loop-again Inv-loop μ-loop
 loop-again c = surveyed-here (c .before .before .before .before .before .before .before .before .loop .inv) (c .before .before .before .before .before .next-section .ensures) (c .before .before .before .next2 .given .1) (c .if2 .taken)
 
 loop-less-2 : tie.Need-loop-less-2 Inv-loop μ-loop
-loop-less-2 c = surveyed-less (c .before .before .before .before .before .before .before .before .loop .inv) (c .before .before .before .before .before .next-section .ensures) (c .before .before .before .next2 .given .1) (c .before .before .before .before .before .before .if1 .taken)
+loop-less-2 c = loop-onward (c .before .before .before .before .before .before .before .before .loop .inv .here) (c .before .before .before .before .before .next-section .ensures) (c .before .before .before .next2 .given .1) (c .before .before .before .before .before .before .if1 .taken)
 
 loop-again-2 : tie.Need-loop-again-2 Inv-loop μ-loop
 loop-again-2 c = surveyed-other (c .before .before .before .before .before .before .before .before .loop .inv) (c .before .before .before .before .before .next-section .ensures) (c .before .before .before .next2 .given .1) (c .if2 .left)
