@@ -2,6 +2,7 @@
 //!
 //! bench               compare, then measure; exit status 1 at the first difference or where a bar is not met
 //! bench compare       compare only
+//! bench program PATH  compare what the program cbf_list prints
 //! bench run WHO WHAT FRAME TYPE TIMES    one call, that many times: what valgrind counts
 //! bench run WHO FILE TIMES               one reading of a large file, that many times
 
@@ -13,6 +14,7 @@ mod files;
 mod frames;
 mod large;
 mod measure_files;
+mod program;
 mod reader;
 mod reference;
 mod vectors;
@@ -152,6 +154,10 @@ fn main() {
             measure_files::run(who, file, times.parse().expect("a number"));
         }
         ["compare"] => compare(),
+        ["program", path] => {
+            let runs = program::all(path);
+            println!("bench: {runs} runs of {path} compared, no difference");
+        }
         [] => {
             compare();
             let met = measure();
@@ -160,7 +166,7 @@ fn main() {
             }
         }
         _ => {
-            println!("usage: bench [compare | run WHO WHAT FRAME TYPE TIMES | run WHO FILE TIMES]");
+            println!("usage: bench [compare | program PATH | run WHO WHAT FRAME TYPE TIMES | run WHO FILE TIMES]");
             std::process::exit(2);
         }
     }

@@ -12,6 +12,7 @@ use Rattle.cbf_walk.proofs.ParserLaws.{Unbound, cut≢ok, ok-val, unbind, unbla
 use Rattle.cbf_format.specs.Text.{same}
 use Rattle.cbf_format.specs.Lines.{line, octets, word, semicolonLine}
 use Rattle.cbf_format.specs.declared.Encoding.{Encoding}
+use Rattle.cbf_format.specs.declared.Encoding.the-variants.{Binary, Base64}
 use Rattle.cbf_format.specs.Base64.{Letters, addSymbols, refusedText, moreText, letters}
 use Rattle.cbf_format.specs.Sections as S
 use Rattle.cbf_format.specs.Sections.{closing, marker, fileLimit, closed, closedAfter, binaryData, goodText, textClosed, base64Data, dataFor}
@@ -25,7 +26,7 @@ use Rattle.cbf_reader.specs.declared.closing.Ending.the-variants.{Wrong,
 use Rattle.cbf_reader.specs.declared.data.Data.{Data}
 use Rattle.cbf_reader.specs.declared.data.Data.the-variants.{Refused, CutOff, At}
 use Rattle.cbf_reader.specs.Places.{nextAt, closedAt}
-use Rattle.cbf_reader.specs.DataPlaces.{dataAt}
+use Rattle.cbf_reader.specs.DataPlaces.{dataAt, isText}
 use Rattle.cbf_pixels.specs.declared.Refusal.{Refusal}
 use Rattle.cbf_reader.specs.declared.base64.Groups.{Groups}
 use Rattle.cbf_reader.specs.declared.base64_text.Base64Text.{Base64Text}
@@ -237,9 +238,17 @@ module _ (file : List ℕ) (limit size at : ℕ) where
 
 -- ---- either encoding
 
--- the data, by the encoding that was found
-pub by-encoding : (limit size at : ℕ) (s : List ℕ) {e e′ : Encoding} {r : Data} → e ≡ e′ → r ≡ dataAt at (dataFor limit e′ size s) → r ≡ dataAt at (dataFor limit e size s)
-by-encoding limit size at s q h = h ∙ ap (λ (e : Encoding). dataAt at (dataFor limit e size s)) (sym q)
+-- the data, by whether they are text
+abbrev pub dataBy : Bool → ℕ → ℕ → Parser S.Data
+dataBy true limit size = base64Data limit size
+dataBy false limit size = binaryData limit size
+
+pub by-text : (limit size at : ℕ) (s : List ℕ) (e : Encoding) {b : Bool} {r : Data} → b ≡ isText e → r ≡ dataAt at (dataBy b limit size s) → r ≡ dataAt at (dataFor limit e size s)
+by-text limit size at s e q h = h ∙ ap (λ (b : Bool). dataAt at (dataBy b limit size s)) q ∙ go e
+  where
+    go : (e : Encoding) → dataAt at (dataBy (isText e) limit size s) ≡ dataAt at (dataFor limit e size s)
+    go Binary = refl
+    go Base64 = refl
 
 -- the first octet is before the span's end, that before the next line, and all in the file
 pub record Within (file : List ℕ) (first end next : ℕ) : Type 0 where

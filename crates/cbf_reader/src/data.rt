@@ -12,7 +12,7 @@ ghost use mathlib.Core.Path.{_≡_};
 ghost use Prim.Native.Nat.{_≤_};
 ghost use lib.ListN.{length, drop};
 ghost use Rattle.cbf_format.specs.Sections.{binaryData, base64Data, dataFor};
-ghost use Rattle.cbf_reader.specs.DataPlaces.{dataAt};
+ghost use Rattle.cbf_reader.specs.DataPlaces.{dataAt, isText};
 
 // Where the first octet is (BASE64: the text), where the section's span ends, and where the next line starts.
 pub enum Data {
@@ -84,13 +84,23 @@ fn base64_data(file: &[u8], at: usize, size: usize, limit: usize) -> Data
     }
 }
 
+// Whether the data are lines of text, which are searched for the closing boundary. BINARY octets are not: they are as many as declared.
+fn is_text(encoding: Encoding) -> bool
+    ensures { λ r. ⌜ r ≡ isText encoding ⌝ }
+{
+    match encoding {
+        Encoding::Binary => false,
+        Encoding::Base64 => true,
+    }
+}
+
 // The data of a section whose headers declare the encoding and the size, at at.
 pub fn data_for(file: &[u8], at: usize, encoding: Encoding, size: usize, limit: usize) -> Data
     requires { ⌜ (at ≤ length (now file)) × (length (now file) ≤ 1073741824) ⌝ }
     ensures { λ r. ⌜ r ≡ dataAt at (dataFor limit encoding size (drop at (now (file .entry)))) ⌝ }
 {
-    match encoding {
-        Encoding::Binary => binary_data(file, at, size, limit),
-        Encoding::Base64 => base64_data(file, at, size, limit),
+    if is_text(encoding) {
+        return base64_data(file, at, size, limit);
     }
+    binary_data(file, at, size, limit)
 }
