@@ -25,7 +25,7 @@ use Rattle.cbf_format.specs.Files.{State, read}
 use Rattle.cbf_format.specs.Listing.{listing}
 use Rattle.cbf_format.proofs.PlaceLaws.{read-place, read-limit}
 use Rattle.cbf_format.proofs.ListingLaws.{listing-short}
-use Rattle.cbf_listing.specs.Outcomes.{roomFor, listOutcome}
+use Rattle.cbf.specs.Outcomes.{roomFor, listOutcome}
 use Rattle.cbf_capi.specs.Words.{packCall, unpackCall, unpackedBy, word}
 
 -- document 01's number, 0 for none, and the place or the length

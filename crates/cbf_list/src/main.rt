@@ -8,7 +8,7 @@ use libc::STDOUT_FILENO;
 // The text for what was read; more says that the input did not end there: "input over 65,536 bytes: `refused 4 at 0`".
 fn text(file: &[u8], more: bool, out: &mut [u8]) -> Answer {
     if more {
-        return cbf_listing::refusal_line(
+        return cbf::refusal_line(
             Refusal {
                 number: 4,
                 place: 0,
@@ -16,7 +16,7 @@ fn text(file: &[u8], more: bool, out: &mut [u8]) -> Answer {
             out,
         );
     }
-    cbf_listing::listing_or_refusal(file, LINE_LIMIT, out)
+    cbf::listing_or_refusal(file, LINE_LIMIT, out)
 }
 
 // Writes the first n bytes. Room is never wanting: 512 lines of at most 122 bytes are less than the buffer's 65,536.

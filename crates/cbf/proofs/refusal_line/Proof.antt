@@ -1,0 +1,101 @@
+-- `refusal_line` meets its contract: the parts of the line are put one after another. Assumes nothing.
+use mathlib.Core.Path.{_≡_, ap, _∙_, sym}
+use Prim.Native.Nat.{_+_}
+use native.Mathlib.Omega.{arith}
+use borrow.Author.Needs.{needs}
+use denote.Ref.{now}
+use lib.ListN.{length}
+use Rattle.cbf_pixels.specs.Answers.{gives}
+use Rattle.cbf_walk.specs.Reading.{refused}
+use Rattle.cbf_format.specs.Listing.{listing}
+use Rattle.cbf.proofs.OutcomeLaws.{no-room, has-room, refusal-length, refusal-put}
+use Rattle.cbf.proofs.refusal_line.Statement.{statement}
+use Rattle.cbf.proofs.refusal_line.Tie as tie
+
+cast-number : tie.Need-cast-number
+cast-number c = search needs
+
+digit-count-requires : tie.Need-digit-count-requires
+digit-count-requires c κs = search needs
+
+add-n : tie.Need-add-n
+add-n c = search needs
+
+digit-count-requires-2 : tie.Need-digit-count-requires-2
+digit-count-requires-2 c κs = search needs
+
+add-n-2 : tie.Need-add-n-2
+add-n-2 c = search needs
+
+returns : tie.Need-returns
+returns c =
+    let a = c .before .before .before .before .before .args in
+    let k = a .refusal .number in
+    let p = a .refusal .place in
+    no-room (listing (refused k p)) (now (a .out)) (omega (arith, refusal-length k p))
+
+slice-aggregate-put-text : tie.Need-slice-aggregate-put-text
+slice-aggregate-put-text c = search needs
+
+put-text-requires : tie.Need-put-text-requires
+put-text-requires c κs = search needs
+
+put-number-requires : tie.Need-put-number-requires
+put-number-requires c κs = search needs
+
+slice-aggregate-put-text-2 : tie.Need-slice-aggregate-put-text-2
+slice-aggregate-put-text-2 c = search needs
+
+put-text-requires-2 : tie.Need-put-text-requires-2
+put-text-requires-2 c κs = search needs
+
+put-number-requires-2 : tie.Need-put-number-requires-2
+put-number-requires-2 c κs = search needs
+
+slice-aggregate-put-text-3 : tie.Need-slice-aggregate-put-text-3
+slice-aggregate-put-text-3 c = search needs
+
+put-text-requires-3 : tie.Need-put-text-requires-3
+put-text-requires-3 c κs = search needs
+
+same-length : tie.Need-same-length
+same-length c = search needs
+
+returns-2 : tie.Need-returns-2
+returns-2 c =
+    let t5 = c .before .before in
+    let t4 = t5 .before .before .before .before .before in
+    let t3 = t4 .before .before .before .before in
+    let t2 = t3 .before .before .before .before .before in
+    let t1 = t2 .before .before .before .before in
+    let b = t1 .before .before .before in
+    let a = b .before .before .before .before .before .args in
+    let k = a .refusal .number in
+    let p = a .refusal .place in
+    let d1 = b .before .before .digit-count in
+    let d2 = b .before .digit-count2 in
+    let e : length (listing (refused k p)) ≡ 13 + d1 .result + d2 .result = rw (d1 .ensures .0, d2 .ensures .0) (refusal-length k p) in
+    let r = has-room (listing (refused k p)) (now (a .out)) (rw e (b .if1 .left)) in
+    let q = refusal-put (now (a .out)) k p (t1 .put-text .ensures) (t2 .put-number .ensures) (t3 .put-text2 .ensures) (t4 .put-number2 .ensures) (t5 .put-text3 .ensures) in
+    (ap gives (sym e) ∙ r .0, q .1 ∙ r .1)
+
+pub refusal-line-spec : {M : Type 1} → statement M
+refusal-line-spec =
+    tie.close
+    (tie.spec
+    cast-number
+    digit-count-requires
+    add-n
+    digit-count-requires-2
+    add-n-2
+    returns
+    slice-aggregate-put-text
+    put-text-requires
+    put-number-requires
+    slice-aggregate-put-text-2
+    put-text-requires-2
+    put-number-requires-2
+    slice-aggregate-put-text-3
+    put-text-requires-3
+    same-length
+    returns-2)
