@@ -39,6 +39,21 @@ found {n} {ws} {t} {b} m h e f k = sym (m .rest k ∙ at-word n (k + n) ws t b (
 pub absent : {n : ℕ} {ws : List (List ℕ)} {t : List ℕ} → Missed n ws t → leb (length ws) n ≡ true → (k : ℕ) → none ≡ oneOf k ws t
 absent {n} {ws} {t} m h k = let le : length ws ≤ n = leb-true (length ws) n h in sym (m .rest k ∙ rw drop-of-length-le)
 
+-- at the places P of a function, each with the start of its call, the text of the call is none of the first n words
+pub record Past (n : ℕ) (ws : List (List ℕ)) {S P : Type 0} (text : S → List ℕ) (start-of : P → S) : Type 0 where
+  pub missing : (c : P) → Missed n ws (text (start-of c))
+
+abbrev pub call : {n : ℕ} {ws : List (List ℕ)} {S P : Type 0} {text : S → List ℕ} {start-of : P → S} → Past n ws text start-of → P → S
+call {start-of = start-of} p = start-of
+
+pub first : {S : Type 0} (ws : List (List ℕ)) (text : S → List ℕ) → Past 0 ws text (λ s. s)
+first ws text = record { missing = λ s. start ws (text s) }
+
+-- one test more, which tells r
+pub next : {n : ℕ} {ws : List (List ℕ)} {S P Q : Type 0} {text : S → List ℕ} {start-of : P → S} {r : Q → Bool} → Past n ws text start-of → ltb n (length ws) ≡ true
+    → (back : Q → P) → ((c : Q) → r c ≡ same (getD ws n []) (lowers (text (start-of (back c))))) → ((c : Q) → r c ≡ false) → Past (suc n) ws text (λ c. start-of (back c))
+next p h back e f = record { missing = λ c. missed (p .missing (back c)) h (e c) (f c) }
+
 -- ---- quotes
 
 -- a text with one more byte at its end
