@@ -53,6 +53,12 @@ uint64_t cbf_unpack_octets(uint8_t element_type, uint8_t compression, const uint
  * Refusals: 1 to 11 for what is wrong in the file, with its place; 15 at 0 for too little room. */
 uint64_t cbf_listing(const uint8_t *file, size_t file_len, uint8_t *out, size_t room);
 
+/* Writes the catalogue of a file: 8 bytes, then 64 for each section. The answer is the number of bytes, at most 32,776. A
+ * file is read whole before anything is written.
+ * Refusals, in this order: 1 to 11 for what is wrong in the file, with its place; 17 for a data block name of more than 32
+ * characters, at the boundary line of the first such section; 15 at 0 for too little room. */
+uint64_t cbf_catalogue(const uint8_t *file, size_t file_len, uint8_t *out, size_t room);
+
 #ifdef __cplusplus
 }
 #endif

@@ -18,6 +18,7 @@ extern "C" {
         room: usize,
     ) -> u64;
     fn cbf_listing(file: *const u8, file_len: usize, out: *mut u8, room: usize) -> u64;
+    fn cbf_catalogue(file: *const u8, file_len: usize, out: *mut u8, room: usize) -> u64;
 }
 
 /// The length of the answer, or a refusal's number and place.
@@ -67,4 +68,9 @@ pub fn unpack_octets(
 pub fn listing(file: &[u8], out: &mut [u8]) -> Answer {
     // Sound: both slices are valid for their lengths, and `out` is borrowed alone.
     answer(unsafe { cbf_listing(file.as_ptr(), file.len(), out.as_mut_ptr(), out.len()) })
+}
+
+pub fn catalogue(file: &[u8], out: &mut [u8]) -> Answer {
+    // Sound: both slices are valid for their lengths, and `out` is borrowed alone.
+    answer(unsafe { cbf_catalogue(file.as_ptr(), file.len(), out.as_mut_ptr(), out.len()) })
 }

@@ -15,11 +15,18 @@ const DAMAGED_VECTORS: usize = 8_000;
 /// Vectors that are longer are not damaged.
 const VECTOR_LIMIT: usize = 20_000;
 
-/// What the reader says of a file: its listing, or a refusal.
+/// What the reader says of a file: the bytes that a call is to write, or a refusal.
 type Said = Result<Vec<u8>, Refusal>;
+
+/// A call of the library that writes bytes.
+type Call = fn(&[u8], &mut [u8]) -> Answer;
 
 fn said(file: &[u8]) -> Said {
     Ok(reader::listing(&reader::read(file)?))
+}
+
+fn catalogued(file: &[u8]) -> Said {
+    reader::catalogue(&reader::read(file)?)
 }
 
 /// The line of a refusal, or the listing.
@@ -40,10 +47,10 @@ impl Tally {
     }
 }
 
-fn check_room(file: &[u8], said: &Said, room: usize, random: &mut Random) {
+fn check_room(call: Call, file: &[u8], said: &Said, room: usize, random: &mut Random) {
     let before: Vec<u8> = (0..room).map(|_| random.next() as u8).collect();
     let mut out = before.clone();
-    let got = cbf::listing(file, &mut out);
+    let got = call(file, &mut out);
     let mut after = before;
     let answer: Answer = match said {
         Err(refusal) => Err(*refusal),
@@ -56,27 +63,61 @@ fn check_room(file: &[u8], said: &Said, room: usize, random: &mut Random) {
     if got != answer || out != after {
         let memory = if out == after { "right" } else { "wrong" };
         differ(format!(
-            "listing room {room}: {got:?}, expected {answer:?}, lent memory {memory}; the file is {}",
+            "room {room}: {got:?}, expected {answer:?}, lent memory {memory}; the file is {}",
             file.escape_ascii()
         ));
     }
 }
 
 /// Room exact, too small by one, none, and more than enough; tells how many calls.
-fn check(file: &[u8], said: &Said, random: &mut Random) -> usize {
+fn check_rooms(call: Call, file: &[u8], said: &Said, random: &mut Random) -> usize {
     let length = said.as_ref().map_or(0, Vec::len);
     let mut rooms = vec![0, length + 1 + random.below(90)];
     if length > 0 {
         rooms.extend([length, length - 1]);
     }
     for &room in &rooms {
-        check_room(file, said, room, random);
+        check_room(call, file, said, room, random);
     }
     rooms.len()
 }
 
+/// Both calls.
+fn check(file: &[u8], said: &Said, random: &mut Random) -> usize {
+    check_rooms(cbf::listing, file, said, random)
+        + check_rooms(cbf::catalogue, file, &catalogued(file), random)
+}
+
+/// The transcript's words for what a catalogue is.
+fn catalogue_words(said: &Said) -> String {
+    let hash = |bytes: &[u8]| {
+        bytes.iter().fold(0u32, |h, &octet| {
+            h.wrapping_mul(31).wrapping_add(u32::from(octet))
+        })
+    };
+    match said {
+        Ok(bytes) => format!("length {} hash {}", bytes.len(), hash(bytes)),
+        Err((number, place)) => format!("refused {number} at {place}"),
+    }
+}
+
+/// The vectors' catalogues: the library's against the transcript.
+fn check_catalogues(cases: &[(Vec<u8>, Vec<u8>)]) -> usize {
+    for ((file, _), words) in cases.iter().zip(vectors::catalogues()) {
+        let mut out = vec![0; 262_144];
+        let got = cbf::catalogue(file, &mut out).map(|length| out[..length].to_vec());
+        if catalogue_words(&got) != words {
+            differ(format!(
+                "catalogue: {}, and not {words}",
+                catalogue_words(&got)
+            ));
+        }
+    }
+    cases.len()
+}
+
 fn check_vectors(cases: &[(Vec<u8>, Vec<u8>)], random: &mut Random) -> usize {
-    let mut calls = 0;
+    let mut calls = check_catalogues(cases);
     for (index, (file, listing)) in cases.iter().enumerate() {
         let mut out = vec![0; listing.len()];
         let got = cbf::listing(file, &mut out);

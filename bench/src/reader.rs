@@ -17,7 +17,7 @@ const MARKER: &[u8] = b"\x0c\x1a\x04\xd5";
 pub type Refusal = (u32, u32);
 
 /// Places are offsets in the file. An ID or a dimension that is absent is 0.
-#[allow(dead_code)] // The listing does not tell all of it.
+#[allow(dead_code)] // Where a section ends is not told by any call yet.
 pub struct Section<'a> {
     /// The opening boundary's first hyphen.
     pub boundary: usize,
@@ -77,6 +77,34 @@ pub fn listing(sections: &[Section]) -> Vec<u8> {
         out.push(b'\n');
     }
     out
+}
+
+/// The catalogue, or 17 for the first data block whose name is too long for its label.
+pub fn catalogue(sections: &[Section]) -> Result<Vec<u8>, Refusal> {
+    const LABEL: usize = 32;
+    if let Some(section) = sections.iter().find(|s| s.block.len() > LABEL) {
+        return Err((17, section.boundary as u32));
+    }
+    let mut bytes = b"FRC\0\x01\0".to_vec();
+    bytes.extend((sections.len() as u16).to_le_bytes());
+    for section in sections {
+        for number in [section.position, section.size, section.elements] {
+            bytes.extend((number as u32).to_le_bytes());
+        }
+        bytes.extend([
+            u8::from(section.byte_offset),
+            section.element_type,
+            u8::from(section.base64),
+            0,
+        ]);
+        for number in [&[section.id][..], &section.dimensions].concat() {
+            bytes.extend(number.to_le_bytes());
+        }
+        let end = bytes.len() + LABEL;
+        bytes.extend_from_slice(section.block);
+        bytes.resize(end, 0);
+    }
+    Ok(bytes)
 }
 
 fn refusal(number: u32, place: usize) -> Refusal {

@@ -41,3 +41,11 @@ pub fn cases() -> Vec<(Vec<u8>, Vec<u8>)> {
     assert_eq!((files.len(), listings.len()), (COUNT, COUNT));
     files.into_iter().zip(listings).collect()
 }
+
+/// What the transcript says of each file's catalogue.
+pub fn catalogues() -> impl Iterator<Item = &'static str> {
+    TRANSCRIPT
+        .lines()
+        .filter_map(|line| line.strip_prefix("catalogue "))
+        .filter(|words| !words.starts_with("short "))
+}

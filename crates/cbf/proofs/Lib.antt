@@ -4,3 +4,6 @@ pub mod DigitLaws
 pub mod OutcomeLaws
 pub mod LineTexts
 pub mod LinesLaws
+pub mod EntryLaws
+pub mod EntriesLaws
+pub mod CatalogueLaws

@@ -5,9 +5,8 @@ use mathlib.Core.List.{List, [], _∷_, _++_, append-assoc, append-nil}
 use Prim.Native.Nat.{ℕ, suc, _+_, _*_, _≤_, _<_}
 use native.Mathlib.Omega.{arith}
 use lib.ListN.{length, length-append}
-use lib.Seq.{slice, sets, length-sets, length-slice}
-use Rattle.cbf_walk.specs.Reading.{Item, Reading, refused, good, flat, from}
-use Rattle.cbf_walk.proofs.ReadingLaws.{refused≢good, onto-good}
+use lib.Seq.{slice, length-slice}
+use Rattle.cbf_walk.specs.Reading.{Item, Reading, refused, good}
 use Rattle.cbf_pixels.specs.declared.Refusal.{Refusal}
 use Rattle.cbf_format.specs.Sections as S
 use Rattle.cbf_format.specs.Files as F
@@ -18,12 +17,12 @@ use Rattle.cbf_reader.specs.declared.step.Cursor.{Cursor}
 use Rattle.cbf_reader.specs.declared.step.Section.{Section}
 use Rattle.cbf_reader.specs.declared.walk.NextSection.{NextSection}
 use Rattle.cbf_reader.specs.declared.walk.NextSection.the-variants as W
-use Rattle.cbf_reader.proofs.SectionCounts.{sections-append}
-use Rattle.cbf_reader.proofs.LoopLaws.{LoopAt, loop-start, LoopMore, AllRead, loop-count, loop-past, loop-refused, loop-end, loop-more}
+use Rattle.cbf_reader.proofs.LoopLaws.{LoopAt, loop-start, LoopMore, AllRead, loop-count, loop-front, loop-past, loop-refused, loop-end, loop-more}
 use Rattle.cbf.specs.Outcomes.{lineFor, linesOf, linesIn, Fits}
 use Rattle.cbf.specs.declared.lines.Measured.{Measured}
 use Rattle.cbf.specs.declared.lines.Measured.the-variants.{Refused, Length}
-use Rattle.cbf.proofs.Puts.{Put, put-both}
+use Rattle.cbf.proofs.Puts.{Put, putIf, put-if-length, put-if-none, put-if-off, put-if-more}
+use Rattle.cbf.proofs.OutcomeLaws.{refused-off}
 
 -- ---- lines
 
@@ -41,14 +40,16 @@ lines-last : (n : ℕ) (a : List Placed) (p : Placed) → sectionLines n (a ++ (
 unfolding sectionLines
 lines-last n a p = lines-append n a (p ∷ []) ∙ ap (λ (t : List ℕ). sectionLines n a ++ t) (append-nil (sectionLine (n + length a) p))
 
--- the first items' listing is no longer than the whole one
-listing-front : (a b : F.Tree) → length (listing (good a)) ≤ length (listing (good (a ++ b)))
+-- the listing of the first sections is no longer than the whole one
+listing-front : (a its : F.Tree) (rest : List Placed) → sections 0 its ≡ sections 0 a ++ rest → length (listing (good a)) ≤ length (listing (good its))
 unfolding listing
-listing-front a b =
+listing-front a its rest e =
     let l = sections 0 a in
-    let m = sections (0 + length (flat a)) b in
-    let e : sectionLines 1 (sections 0 (a ++ b)) ≡ sectionLines 1 l ++ sectionLines (1 + length l) m = ap (sectionLines 1) (sections-append a b 0) ∙ lines-append 1 l m in
-    omega (arith, ap length e, length-append (sectionLines 1 l) (sectionLines (1 + length l) m))
+    omega (
+      arith,
+      ap length (ap (sectionLines 1) e ∙ lines-append 1 l rest),
+      length-append (sectionLines 1 l) (sectionLines (1 + length l) rest),
+    )
 
 -- the line of a section of the code
 module _ {file : List ℕ} {p : Placed} {s : Section} (is : SectionOf file p s) (n : ℕ) where
@@ -70,20 +71,10 @@ module _ {file : List ℕ} {p : Placed} {s : Section} (is : SectionOf file p s) 
 
 -- ---- the output
 
--- it keeps its length, and only the listing's text counts
-lines-kept : (w : Bool) (r : Reading (Item F.State S.Section)) (old : List ℕ) → length (linesIn w r old) ≡ length old
-lines-kept true r old = length-sets old 0 (listing r)
-lines-kept false r old = refl
-
-lines-same : (w : Bool) (r t : Reading (Item F.State S.Section)) (old : List ℕ) → listing r ≡ listing t → linesIn w r old ≡ linesIn w t old
-lines-same true r t old e = ap (λ (z : List ℕ). sets old 0 z) e
-lines-same false r t old e = refl
-
-lines-written : (w : Bool) (r : Reading (Item F.State S.Section)) (old : List ℕ) → w ≡ true → linesIn w r old ≡ sets old 0 (listing r)
-lines-written w r old e = rw e
-
-lines-measured : (w : Bool) (r : Reading (Item F.State S.Section)) (old : List ℕ) → w ≡ false → linesIn w r old ≡ old
-lines-measured w r old e = rw e
+-- what the contract says of it
+lines-in : (w : Bool) (r : Reading (Item F.State S.Section)) (old : List ℕ) → putIf w old 0 (listing r) ≡ linesIn w r old
+lines-in true r old = refl
+lines-in false r old = refl
 
 -- what is answered for a reading of the file, and what is then in the output
 abbrev Answered : Reading (Item F.State S.Section) → Bool → List ℕ → Measured → List ℕ → Type 0
@@ -96,7 +87,7 @@ pub record Listed (limit : ℕ) (file old : List ℕ) (writing : Bool) (c : Curs
   pub here : LoopAt limit file c
   pub length-is : at ≡ length (listing (good (here .done)))
   pub bound : at ≤ c .count * 2147483648
-  pub holds : out ≡ linesIn writing (good (here .done)) old
+  pub holds : out ≡ putIf writing old 0 (listing (good (here .done)))
 
 pub listed-start : (limit : ℕ) (file old : List ℕ) (writing : Bool) (c : Cursor) → c ≡ startCursor → length file ≤ S.fileLimit → Listed limit file old writing c 0 old
 unfolding sections sectionLines listing
@@ -104,25 +95,21 @@ listed-start limit file old writing c e h = record {
   here = loop-start limit file c e h;
   length-is = refl;
   bound = omega arith;
-  holds = go writing;
+  holds = put-if-none writing old 0;
 }
-  where
-    go : (w : Bool) → old ≡ linesIn w (good []) old
-    go true = refl
-    go false = refl
 
 module _ {limit : ℕ} {file old : List ℕ} {writing : Bool} {c : Cursor} {at : ℕ} {out : List ℕ} (k : Listed limit file old writing c at out) where
   abbrev done : F.Tree
   done = k .here .done
 
   pub listed-kept : length out ≡ length old
-  listed-kept = ap length (k .holds) ∙ lines-kept writing (good done) old
+  listed-kept = ap length (k .holds) ∙ put-if-length writing old 0 (listing (good done))
 
   ended : AllRead (k .here) → Answered (whole limit file) writing old (Length at) out
   unfolding listing
   ended all =
       let e : listing (good done) ≡ listing (good (all .0)) = ap (sectionLines 1) (sym (all .2)) in
-      rw (all .1) (ap Length (k .length-is ∙ ap length e), k .holds ∙ lines-same writing (good done) (good (all .0)) old e)
+      rw (all .1) (ap Length (k .length-is ∙ ap length e), k .holds ∙ ap (putIf writing old 0) e ∙ lines-in writing (good (all .0)) old)
 
   -- the file ends at the cursor
   pub listed-past : 0 < length file → length file ≤ c .at → Answered (whole limit file) writing old (Length at) out
@@ -133,11 +120,11 @@ module _ {limit : ℕ} {file old : List ℕ} {writing : Bool} {c : Cursor} {at :
     -- nothing was written of a refused file
     pub listed-refused : {q : Refusal} → (writing ≡ true → Fits (whole limit file) old) → r ≡ W.Refused q
         → Answered (whole limit file) writing old (Refused q) out
-    listed-refused {q} fits is = rw (loop-refused (k .here) says is) (refl, k .holds ∙ go writing fits)
-      where
-        go : (w : Bool) → (w ≡ true → Fits (whole limit file) old) → linesIn w (good done) old ≡ linesIn w (refused (q .number) (q .place)) old
-        go true f = absurd (refused≢good (sym (loop-refused (k .here) says is) ∙ f refl .1))
-        go false f = refl
+    listed-refused {q} fits is =
+        let e = loop-refused (k .here) says is in
+        let off = refused-off writing (λ on. (fits on .0, fits on .1)) e in
+        let r = refused (q .number) (q .place) in
+        rw e (refl, k .holds ∙ put-if-off writing old 0 (listing (good done)) (listing r) off ∙ lines-in writing r old)
 
     pub listed-end : r ≡ W.End → Answered (whole limit file) writing old (Length at) out
     listed-end is = ended (loop-end (k .here) says is)
@@ -172,11 +159,10 @@ module _ {limit : ℕ} {file old : List ℕ} {writing : Bool} {c : Cursor} {at :
       pub listed-room : (writing ≡ true → Fits (whole limit file) old) → writing ≡ true → at + length line ≤ length out
       listed-room fits on =
           let f = fits on in
-          let g = found .here .come in
-          let b = onto-good then (from 11 (F.step limit) F.due S.fileLimit file (d .at) (g .state)) (f .0) (sym (g .reached .so-far) ∙ f .1) in
-          omega (arith, length-more, listing-front then (b .0), ap (λ (l : F.Tree). length (listing (good l))) (b .1), f .2, listed-kept)
+          let b = loop-front (found .here) (f .0) (f .1) in
+          omega (arith, length-more, listing-front then (f .0) (b .0) (b .1), f .2, listed-kept)
 
-      listed-on : {n : ℕ} {new : List ℕ} → n ≡ at + length line → new ≡ linesIn writing (good then) old → Listed limit file old writing d n new
+      listed-on : {n : ℕ} {new : List ℕ} → n ≡ at + length line → new ≡ putIf writing old 0 (listing (good then)) → Listed limit file old writing d n new
       listed-on e h = record {
         here = found .here;
         length-is = e ∙ length-more;
@@ -186,10 +172,8 @@ module _ {limit : ℕ} {file old : List ℕ} {writing : Bool} {c : Cursor} {at :
 
       -- the line was written, or measured
       pub listed-written : {n : ℕ} {new : List ℕ} → writing ≡ true → Put out at line n new → Listed limit file old writing d n new
-      listed-written {n} {new} on p = listed-on (p .0) (put .1 ∙ ap (sets old 0) (sym line-more) ∙ sym (lines-written writing (good then) old on))
-        where
-          put : Put old 0 (listing (good done) ++ line) n new
-          put = put-both old 0 (listing (good done)) line (omega (arith, k .length-is), k .holds ∙ lines-written writing (good done) old on) p
+      listed-written on p =
+          listed-on (p .0) (put-if-more writing old 0 (listing (good done)) line on (k .holds) (omega (arith, k .length-is)) (p .1) ∙ ap (putIf writing old 0) (sym line-more))
 
       pub listed-measured : {n : ℕ} → writing ≡ false → n ≡ length line → Listed limit file old writing d (at + n) out
-      listed-measured off e = listed-on (ap (λ (n : ℕ). at + n) e) (k .holds ∙ lines-measured writing (good done) old off ∙ sym (lines-measured writing (good then) old off))
+      listed-measured off e = listed-on (ap (λ (n : ℕ). at + n) e) (k .holds ∙ put-if-off writing old 0 (listing (good done)) (listing (good then)) off)

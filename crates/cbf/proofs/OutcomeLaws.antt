@@ -1,5 +1,5 @@
 -- What is answered where the lent output has room for a text and where it has not, for the listing of a file and for the line of a refusal. Assumes nothing.
-use mathlib.Core.Path.{_≡_, refl, ap, _∙_}
+use mathlib.Core.Path.{_≡_, refl, sym, ap, _∙_}
 use mathlib.Core.Bool.{Bool, true, false}
 use mathlib.Core.List.{List, [], _∷_, _++_}
 use Prim.Native.Nat.{ℕ, _+_, _≤_, _<_}
@@ -10,7 +10,7 @@ use lib.ListN.{length, length-append, drop}
 use lib.Seq.{sets, sets-eq}
 use Rattle.cbf_walk.specs.Reading.{Item, Reading, refused, good}
 use Rattle.cbf_walk.proofs.ReadingLaws.{refused≢good}
-use Rattle.cbf_pixels.specs.Answers.{gives, refuses, written}
+use Rattle.cbf_pixels.specs.Answers.{Outcome, gives, refuses, written}
 use Rattle.cbf_pixels.specs.declared.Refusal.{Refusal}
 use Rattle.cbf_format.specs.Sections as S
 use Rattle.cbf_format.specs.Files as F
@@ -20,18 +20,36 @@ use Rattle.cbf.specs.Outcomes.{roomFor, listOutcome, shown, linesOf, lin
 use Rattle.cbf.specs.declared.lines.Measured.the-variants.{Refused, Length}
 use Rattle.cbf.proofs.Puts.{Put, put-both}
 
-pub no-room : (text old : List ℕ) → length old < length text
-    → (refuses 15 0 ≡ roomFor text (length old)) × (old ≡ written (roomFor text (length old)) text old)
-unfolding roomFor written
-no-room text old h = (rw (lt-leb (length text) (length old) h), rw (lt-leb (length text) (length old) h))
+-- what a call says, and what is then in the output
+abbrev pub Says : Outcome → List ℕ → List ℕ → Outcome → List ℕ → Type 0
+Says o text old said out = (said ≡ o) × (out ≡ written o text old)
 
-pub has-room : (text old : List ℕ) → length text ≤ length old
-    → (gives (length text) ≡ roomFor text (length old)) × (sets old 0 text ≡ written (roomFor text (length old)) text old)
-unfolding roomFor written
-has-room text old h =
-    let z : 0 + length text ≡ length text = zero-add (length text) in
-    let e : sets old 0 text ≡ text ++ drop (length text) old = rw z at (sets-eq text old 0 (omega arith)) in
-    (rw (le-leb (length text) (length old) h), rw (le-leb (length text) (length old) h) e)
+pub refusal : (text old : List ℕ) {o : Outcome} {k p : ℕ} → refuses k p ≡ o → Says o text old (refuses k p) old
+unfolding written
+refusal text old e = (e, rw (← e))
+
+-- the text, whose length was counted, is answered where there is room for it
+module _ (text old : List ℕ) {o : Outcome} {n : ℕ} (outcome-is : o ≡ roomFor text (length old)) (length-is : n ≡ length text) where
+  pub no-room : length old < n → Says o text old (refuses 15 0) old
+  unfolding roomFor
+  no-room h = refusal text old (sym (outcome-is ∙ rw (lt-leb (length text) (length old) (omega arith))))
+
+  pub has-room : n ≤ length old → Says o text old (gives n) (sets old 0 text)
+  unfolding roomFor written
+  has-room h =
+      let l : length text ≤ length old = omega arith in
+      let z : 0 + length text ≡ length text = zero-add (length text) in
+      let e : sets old 0 text ≡ text ++ drop (length text) old = rw z at (sets-eq text old 0 (omega arith)) in
+      let q : o ≡ gives (length text) = outcome-is ∙ rw (le-leb (length text) (length old) l) in
+      (ap gives length-is ∙ sym q, rw q e)
+
+-- ---- a file that is refused
+
+-- nothing is written of it where only an accepted one is written
+pub refused-off : (writing : Bool) {r : Reading (Item F.State S.Section)} {k p : ℕ} → (writing ≡ true → (its : F.Tree) × (r ≡ good its)) → r ≡ refused k p
+    → writing ≡ false
+refused-off false fits e = refl
+refused-off true fits e = absurd (refused≢good (sym e ∙ fits refl .1))
 
 -- ---- the listing of what reading gives
 
@@ -39,13 +57,12 @@ has-room text old h =
 pub refused-lines : (writing : Bool) (old : List ℕ) (f : Refusal)
     → (writing ≡ true → Fits (refused (f .number) (f .place)) old)
     → (Refused f ≡ linesOf (refused (f .number) (f .place))) × (old ≡ linesIn writing (refused (f .number) (f .place)) old)
-refused-lines false old f fits = (refl, refl)
-refused-lines true old f fits = absurd (refused≢good (fits refl .1))
+refused-lines writing old f fits = (refl, rw (refused-off writing (λ on. (fits on .0, fits on .1)) refl))
 
 pub list-refused : (r : Reading (Item F.State S.Section)) (old : List ℕ) (f : Refusal) → Refused f ≡ linesOf r
-    → (refuses (f .number) (f .place) ≡ listOutcome r (length old)) × (old ≡ written (listOutcome r (length old)) (listing r) old)
-unfolding listOutcome written
-list-refused (refused k p) old f e = (cc, refl)
+    → Says (listOutcome r (length old)) (listing r) old (refuses (f .number) (f .place)) old
+unfolding listOutcome
+list-refused (refused k p) old f e = refusal (listing (refused k p)) old (cc)
 list-refused (good its) old f e = let z : _≡_ {A = ℕ} 0 1 = cc in absurd (omega arith)
 
 -- a file with a length of its lines is accepted
@@ -56,17 +73,14 @@ accepted (refused k p) n e = let z : _≡_ {A = ℕ} 0 1 = cc in absurd (omega a
 accepted (good its) n e = (its, refl, cc, λ room. refl)
 
 pub list-no-room : (r : Reading (Item F.State S.Section)) (old : List ℕ) (n : ℕ) → Length n ≡ linesOf r → length old < n
-    → (refuses 15 0 ≡ listOutcome r (length old)) × (old ≡ written (listOutcome r (length old)) (listing r) old)
-list-no-room r old n e h = let a = accepted r n e in rw (a .3 (length old)) (no-room (listing r) old (omega arith))
+    → Says (listOutcome r (length old)) (listing r) old (refuses 15 0) old
+list-no-room r old n e h = let a = accepted r n e in no-room (listing r) old (a .3 (length old)) (a .2) h
 
 pub list-has-room : (r : Reading (Item F.State S.Section)) (old : List ℕ) (n : ℕ) → Length n ≡ linesOf r → n ≤ length old
-    → Fits r old
-    × (gives n ≡ listOutcome r (length old))
-    × (linesIn true r old ≡ written (listOutcome r (length old)) (listing r) old)
+    → Fits r old × Says (listOutcome r (length old)) (listing r) old (gives n) (linesIn true r old)
 list-has-room r old n e h =
     let a = accepted r n e in
-    let w = has-room (listing r) old (omega arith) in
-    ((a .0, a .1, rw (← (a .1)) (rw (a .2) at h)), rw (a .3 (length old)) (ap gives (a .2) ∙ w .0), rw (a .3 (length old)) (w .1))
+    ((a .0, a .1, rw (← (a .1)) (rw (a .2) at h)), has-room (listing r) old (a .3 (length old)) (a .2) h)
 
 -- what is shown where there is a listing, and where there is a refusal
 pub shown-listing : (r : Reading (Item F.State S.Section)) (room n : ℕ) → gives n ≡ listOutcome r room

@@ -1,5 +1,6 @@
--- Runs of stores: one that follows another, and a store that comes before or after one. Assumes nothing.
-use mathlib.Core.Path.{_≡_, ap, _∙_, sym}
+-- Runs of stores: one that follows another, a store that comes before or after one, and a text that is written or only measured. Assumes nothing.
+use mathlib.Core.Path.{_≡_, refl, ap, _∙_, sym}
+use mathlib.Core.Bool.{Bool, true, false}
 use mathlib.Core.List.{List, [], _∷_, _++_}
 use Prim.Native.Nat.{ℕ, suc, _+_, _<_}
 use native.Mathlib.Nat.{add-zero, add-suc, suc-add}
@@ -42,3 +43,30 @@ sets-take old s at i h =
     ap (λ (k : ℕ). set (sets old at (take i s)) (at + k) (getD s i 0)) (sym e)
     ∙ sets-append old (take i s) (getD s i 0 ∷ []) at
     ∙ ap (λ (l : List ℕ). sets old at l) (sym (take-suc s i 0 h))
+
+-- ---- a text that is written, or only measured
+
+-- what is in the output old after a pass over a text, which goes to it from at on where it is written
+abbrev pub putIf : Bool → List ℕ → ℕ → List ℕ → List ℕ
+putIf true old at text = sets old at text
+putIf false old at text = old
+
+pub put-if-length : (writing : Bool) (old : List ℕ) (at : ℕ) (text : List ℕ) → length (putIf writing old at text) ≡ length old
+put-if-length true old at text = length-sets old at text
+put-if-length false old at text = refl
+
+pub put-if-none : (writing : Bool) (old : List ℕ) (at : ℕ) → old ≡ putIf writing old at []
+put-if-none true old at = refl
+put-if-none false old at = refl
+
+-- where it is only measured, any text leaves the same
+pub put-if-off : (writing : Bool) (old : List ℕ) (at : ℕ) (a b : List ℕ) → writing ≡ false → putIf writing old at a ≡ putIf writing old at b
+put-if-off writing old at a b off = rw off
+
+-- b more, behind a
+pub put-if-more : (writing : Bool) (old : List ℕ) (at : ℕ) (a b : List ℕ) {n : ℕ} {out new : List ℕ} → writing ≡ true → out ≡ putIf writing old at a
+    → n ≡ at + length a
+    → new ≡ sets out n b
+    → new ≡ putIf writing old at (a ++ b)
+put-if-more true old at a b on h e q = q ∙ rw (h, e) (sets-append old a b at)
+put-if-more false old at a b on h e q = let z : _≡_ {A = ℕ} 0 1 = cc in absurd (omega arith)

@@ -1,12 +1,17 @@
-// The calls on a file. So far the listing: a line for each section. Its text is defined in cbf_format; the functions here write it to lent memory.
+// The calls on a file: its listing and its catalogue. Their bytes are defined in cbf_format; the functions here write them to lent memory.
 mod digits;
+mod entries;
+mod entry;
 mod lines;
+mod little;
 mod put;
 mod section_line;
+mod write_catalogue;
 
 use cbf_pixels::Answer;
 use cbf_pixels::Refusal;
 use lines::Measured;
+pub use write_catalogue::catalogue;
 ghost use mathlib.Core.Path.{_≡_};
 ghost use lib.ListN.{length};
 ghost use Rattle.cbf_walk.specs.Reading.{refused};

@@ -3,6 +3,7 @@ use Prim.Native.Nat.{ℕ, _+_, _*_, _/_, _%_, _^_, _<_, _≤_}
 use native.Mathlib.Omega.{arith}
 use mathlib.Core.Path.{_≡_, refl, ap, ap₂, _∙_}
 use mathlib.Core.List.{List}
+use mathlib.Core.Option.{Option, none, some}
 use mathlib.Core.Bool.{Bool, true, false, cond}
 use lib.Dec.{leb}
 use lib.ListN.{length}
@@ -21,11 +22,14 @@ use Rattle.cbf_walk.specs.Reading.{Item, Reading, good}
 use Rattle.cbf_walk.specs.Reading as R
 use Rattle.cbf_format.specs.Lines.{lineLimit}
 use Rattle.cbf_format.specs.Sections.{Section}
-use Rattle.cbf_format.specs.Files.{State, read}
-use Rattle.cbf_format.specs.Listing.{listing}
-use Rattle.cbf_format.proofs.PlaceLaws.{read-place, read-limit}
+use Rattle.cbf_format.specs.Files.{State, Tree, read}
+use Rattle.cbf_format.specs.Listing.{sections, listing}
+use Rattle.cbf_format.specs.Catalogue.{catalogue, longName}
+use Rattle.cbf_format.proofs.FileLaws.{accepted}
+use Rattle.cbf_format.proofs.PlaceLaws.{read-place, read-limit, long-name-place}
 use Rattle.cbf_format.proofs.ListingLaws.{listing-short}
-use Rattle.cbf.specs.Outcomes.{roomFor, listOutcome}
+use Rattle.cbf.specs.Outcomes.{roomFor, listOutcome, cataloguedOr, catalogueOutcome}
+use Rattle.cbf.proofs.CatalogueLaws.{catalogue-short}
 use Rattle.cbf_capi.specs.Words.{packCall, unpackCall, unpackedBy, word}
 
 -- document 01's number, 0 for none, and the place or the length
@@ -75,18 +79,41 @@ unpack-halves c t n os room =
     tested (leb n room) _ 15 (omega arith) (λ d.
     given n pixelLimit (omega arith) a)))
 
--- the refusals of reading have small numbers and places of the file, and a listing is short
+-- a text that is short, where there is room for it
+roomed : (text : List ℕ) (room : ℕ) → length text < 2 ^ 32 → Halves (roomFor text room)
+unfolding roomFor
+roomed text room h = go (leb (length text) room)
+  where
+    go : (b : Bool) → Halves (cond b (gives (length text)) (refuses 15 0))
+    go true = halves (gives (length text)) (omega arith) h
+    go false = refused 15 (omega arith)
+
+-- the refusals of reading have small numbers and places of the file
+unread : (file : List ℕ) (k p : ℕ) → read lineLimit file ≡ R.refused k p → Halves (refuses k p)
+unread file k p e =
+    let h = read-place lineLimit file k p e in halves (refuses k p) (omega (arith, h .1)) (omega (arith, read-limit lineLimit file k p e))
+
 pub list-halves : (file : List ℕ) (room : ℕ) → Halves (listOutcome (read lineLimit file) room)
-unfolding listOutcome roomFor
+unfolding listOutcome
 list-halves file room = go (read lineLimit file) refl
   where
-    fitting : (n : ℕ) (b : Bool) → n < 2 ^ 32 → Halves (cond b (gives n) (refuses 15 0))
-    fitting n true h = halves (gives n) (omega arith) h
-    fitting n false h = refused 15 (omega arith)
-
     go : (r : Reading (Item State Section)) → read lineLimit file ≡ r → Halves (listOutcome r room)
-    go (R.refused k p) e = let h = read-place lineLimit file k p e in halves (refuses k p) (omega (arith, h .1)) (omega (arith, read-limit lineLimit file k p e))
-    go (good its) e = fitting (length (listing (good its))) (leb (length (listing (good its))) room) (omega (arith, listing-short lineLimit file its e))
+    go (R.refused k p) e = unread file k p e
+    go (good its) e = roomed (listing (good its)) room (omega (arith, listing-short lineLimit file its e))
+
+pub catalogue-halves : (file : List ℕ) (room : ℕ) → Halves (catalogueOutcome (read lineLimit file) room)
+unfolding catalogueOutcome
+catalogue-halves file room = go (read lineLimit file) refl
+  where
+    named : (its : Tree) → read lineLimit file ≡ good its → (o : Option ℕ) → longName (sections 0 its) ≡ o
+        → Halves (cataloguedOr o (catalogue (sections 0 its)) room)
+    named its e none q = roomed (catalogue (sections 0 its)) room (omega (arith, catalogue-short lineLimit file its e q))
+    named its e (some p) q =
+        halves (refuses 17 p) (omega arith) (omega (arith, long-name-place lineLimit file its p e q, accepted lineLimit file its e .not-long))
+
+    go : (r : Reading (Item State Section)) → read lineLimit file ≡ r → Halves (catalogueOutcome r room)
+    go (R.refused k p) e = unread file k p e
+    go (good its) e = named its e (longName (sections 0 its)) refl
 
 -- ---- what the calls answer, for the numbers of a type and of a compression
 

@@ -12,7 +12,7 @@ ghost use Rattle.cbf_pixels.specs.Answers.{refuses, outcome, written};
 ghost use Rattle.cbf_format.specs.Lines.{lineLimit};
 ghost use Rattle.cbf_format.specs.Files.{read};
 ghost use Rattle.cbf_format.specs.Listing.{listing};
-ghost use Rattle.cbf.specs.Outcomes.{listOutcome};
+ghost use Rattle.cbf.specs.Outcomes.{listOutcome, catalogueOutcome, catalogueText};
 ghost use Rattle.cbf_capi.specs.Words.{element, compressed, packCall, unpackCall, unpackedBy, word};
 
 pub enum Element {
@@ -111,4 +111,13 @@ pub extern "C" fn cbf_listing(file: &[u8], out: &mut [u8]) -> u64
     ensures output { λ _. ⌜ now (out .exit) ≡ written (listOutcome (read lineLimit (now (file .entry))) (length (now (out .entry)))) (listing (read lineLimit (now (file .entry)))) (now (out .entry)) ⌝ }
 {
     word_of(cbf::list(file, LINE_LIMIT, out))
+}
+
+// Writes the catalogue of a file.
+#[no_mangle]
+pub extern "C" fn cbf_catalogue(file: &[u8], out: &mut [u8]) -> u64
+    ensures answer { λ r. ⌜ r ≡ word (catalogueOutcome (read lineLimit (now (file .entry))) (length (now (out .entry)))) ⌝ }
+    ensures output { λ _. ⌜ now (out .exit) ≡ written (catalogueOutcome (read lineLimit (now (file .entry))) (length (now (out .entry)))) (catalogueText (read lineLimit (now (file .entry)))) (now (out .entry)) ⌝ }
+{
+    word_of(cbf::catalogue(file, LINE_LIMIT, out))
 }

@@ -15,6 +15,8 @@ use Rattle.cbf_format.specs.Descriptions.{judge, verdict, headers}
 use Rattle.cbf_format.specs.Base64.{symbol, letters, decode}
 use Rattle.cbf_format.specs.Sections.{opening, Section, lastBoundary, afterSpan, closed, binaryData, base64Data, section}
 use Rattle.cbf_format.specs.Files.{State, opened, read, step, due, identified}
+use Rattle.cbf_pixels.specs.Octets as O
+use Rattle.cbf_format.specs.Catalogue.{zeros, entry, entries, catalogue}
 use Rattle.cbf_format.specs.Listing.{Placed, position, sections, digitsOf, sectionText, sectionLines, listing}
 
 -- the 401-byte file of document 01
@@ -47,6 +49,16 @@ sample-places = refl
 pub sample-listed : listing (read 80 sample) ≡ bytes "1 359 4 2 byte_offset s32 a\n"
 unfolding sample read readF step due textLine lineEnd octets word semicolonLine headerLine headerLines judge verdict headers lastBoundary afterSpan closed binaryData section identified number listing sections sectionLines sectionText digitsOf
 sample-listed = refl
+
+-- "46 52 43 00 01 00 01 00, 67 01 00 00, 04 00 00 00, 02 00 00 00, 01 06 00 00, 01 00 00 00, twelve 00, 61, thirty-one 00"
+abbrev catalogueOf : Reading (Item State Section) → List ℕ
+catalogueOf (refused k p) = []
+catalogueOf (good its) = catalogue (sections 0 its)
+
+pub sample-catalogued : catalogueOf (read 80 sample)
+    ≡ 0x46 ∷ 0x52 ∷ 0x43 ∷ 0 ∷ 1 ∷ 0 ∷ 1 ∷ 0 ∷ 0x67 ∷ 1 ∷ 0 ∷ 0 ∷ 4 ∷ 0 ∷ 0 ∷ 0 ∷ 2 ∷ 0 ∷ 0 ∷ 0 ∷ 1 ∷ 6 ∷ 0 ∷ 0 ∷ 1 ∷ 0 ∷ 0 ∷ 0 ∷ (zeros 12 ++ (0x61 ∷ zeros 31))
+unfolding sample read readF step due textLine lineEnd octets word semicolonLine headerLine headerLines judge verdict headers lastBoundary afterSpan closed binaryData section identified number sections catalogue entries entry zeros O.octets
+sample-catalogued = refl
 
 pub sample-cut : read 80 (take 370 sample) ≡ refused 9 363
 unfolding sample read readF step due textLine lineEnd octets word semicolonLine headerLine headerLines judge verdict headers lastBoundary afterSpan closed binaryData section identified number

@@ -1,4 +1,4 @@
--- Each refusal of reading has a number from 1 to 11, and a place inside the file. Assumes nothing.
+-- Each refusal of reading has a number from 1 to 11, and a place inside the file; the boundary line of a section with a long name is inside it too. Assumes nothing.
 use mathlib.Core.Path.{_≡_, refl, ap, subst}
 use mathlib.Core.Option.{Option, none, some}
 use mathlib.Core.Bool.{Bool, true, false, _&&_, cond}
@@ -7,9 +7,9 @@ use Prim.Native.Nat.{ℕ, zero, suc, _+_, _≤_}
 use native.Mathlib.Omega.{arith}
 use lib.Dec.{leb, ltb, eqb}
 use borrow.Author.Tests.{leb-true}
-use lib.ListN.{length, take, drop}
+use lib.ListN.{length, length-append, take, drop}
 use Rattle.cbf_walk.specs.Parsers.{Res, bad, cut, ok, Parser, ret, plus, counted, screen, blame, onward, bind}
-use Rattle.cbf_walk.specs.Reading.{Item, Reading, refused, good}
+use Rattle.cbf_walk.specs.Reading.{Item, Reading, refused, good, flat}
 use Rattle.cbf_walk.proofs.ParserLaws.{cut≢ok, ok-val, uncount, unscreen, unonward, counted-tame, screen-tame, blame-tame, onward-tame}
 use Rattle.cbf_walk.proofs.PlaceLaws.{Gives, bind-gives, Within, TestWithin, passes, refuses, ReadingWithin, RefusesWithin, cond-within, ret-within, cut-within, counted-within, screen-within, blame-within, onward-within, bind-within, read-within}
 use Rattle.cbf_format.specs.Text.{textual, same, skip}
@@ -21,11 +21,13 @@ use Rattle.cbf_format.specs.declared.Encoding.the-variants.{Binary, Base
 use Rattle.cbf_format.specs.Descriptions.{Description, Judged, refused-at, found, look, put, judgeHeader, onward as judgedOn, judge, description, agrees, Verdict, refuses as refusesAt, describes, described, verdictOf, verdict, concludedBy, concluded, headers}
 use Rattle.cbf_format.specs.Base64.{symbol, isOther, refusedSymbol, Letters, addSymbols, refusedText, moreText, letters, decode, sized}
 use Rattle.cbf_format.specs.Sections.{closing, marker, fileLimit, closed, closedAfter, binaryData, goodText, blameAt, textClosed, base64Data, dataFor, Section, sectionOf, section}
-use Rattle.cbf_format.specs.Files.{identified, refusedFirst, Field, first-line, outside, opened, inside, State, start, due, afterLine, afterSection, isBoundary, oneTooMany, stepLine, sectionOr, afterStepLine, step, readSome, read}
+use Rattle.cbf_format.specs.Files.{identified, refusedFirst, Field, first-line, outside, opened, inside, State, start, due, afterLine, afterSection, isBoundary, oneTooMany, stepLine, sectionOr, afterStepLine, step, Tree, readSome, read}
+use Rattle.cbf_format.specs.Listing.{Placed, addPlaced, sections}
+use Rattle.cbf_format.specs.Catalogue.{labelWidth, longName}
 use Rattle.cbf_format.proofs.LineTame.{and-true, line-tame, headerLine-tame, octets-tame, word-tame}
 use Rattle.cbf_format.proofs.SectionTame.{headerLines-tame, headers-tame, closed-tame, binaryOf, letters-tame, text, afterText, dataFor-tame, afterHeaders, section-tame}
 use Rattle.cbf_format.proofs.SectionLaws.{line-rest, letters-end}
-use Rattle.cbf_format.proofs.FileLaws.{lineOf, stepLine-tame, step-tame}
+use Rattle.cbf_format.proofs.FileLaws.{lineOf, stepLine-tame, step-tame, accepted}
 
 -- the numbers of the refusals of reading, as a test: `refl` at each
 abbrev pub ReadingNumber : ℕ → Type 0
@@ -347,3 +349,25 @@ read-limit limit file k p e = go (leb (length file) fileLimit) refl
     go : (b : Bool) → leb (length file) fileLimit ≡ b → p ≤ fileLimit
     go true h = omega (arith, leb-true (length file) fileLimit h, read-place limit file k p e .2)
     go false h = let q : 0 ≡ p = ap place (rw h at e) in omega (arith, q)
+
+-- ---- the section of a long name
+
+long-name-from : (at : ℕ) (its : Tree) (b : ℕ) → longName (sections at its) ≡ some b → b ≤ at + length (flat its)
+unfolding longName sections flat
+long-name-from at [] b e = let z : _≡_ {A = ℕ} 0 1 = cc in absurd (omega arith)
+long-name-from at (it ∷ its) b e = go (λ q. omega (arith, long-name-from (at + length (it .bytes)) its b q, length-append (it .bytes) (flat its))) (it .info) e
+  where
+    rest : List Placed
+    rest = sections (at + length (it .bytes)) its
+
+    go : (longName rest ≡ some b → b ≤ at + length (it .bytes ++ flat its)) → (o : Option Section) → longName (addPlaced at o rest) ≡ some b
+        → b ≤ at + length (it .bytes ++ flat its)
+    go later none q = later q
+    go later (some i) q = either (leb (length (i .block)) labelWidth) q
+      where
+        either : (t : Bool) → cond t (longName rest) (some at) ≡ some b → b ≤ at + length (it .bytes ++ flat its)
+        either true q = later q
+        either false q = let p : at ≡ b = cc in omega arith
+
+pub long-name-place : (limit : ℕ) (file : List ℕ) (its : Tree) (b : ℕ) → read limit file ≡ good its → longName (sections 0 its) ≡ some b → b ≤ length file
+long-name-place limit file its b e q = omega (arith, long-name-from 0 its b q, ap length (accepted limit file its e .whole))

@@ -7,3 +7,4 @@ pub mod Base64
 pub mod Sections
 pub mod Files
 pub mod Listing
+pub mod Catalogue

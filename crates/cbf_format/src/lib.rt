@@ -3,6 +3,9 @@
 // "Text line: at most 80 characters, line end not counted." The calls for users take this limit; what reads takes it as a parameter.
 pub const LINE_LIMIT: usize = 80;
 
+// The label of a catalogue's entry: "zero-filled to 32".
+pub const LABEL_WIDTH: usize = 32;
+
 // What a byte of BASE64 text is: a letter with its six-bit number, the pad `=`, a blank, or none of these.
 pub enum Symbol {
     Letter(u8),

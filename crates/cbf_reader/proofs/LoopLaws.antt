@@ -1,10 +1,11 @@
 -- A loop over the sections of a file: at its start, with one section more, and where the file ends or is refused. Assumes nothing.
 use mathlib.Core.Path.{_≡_, sym, ap, _∙_, subst}
 use mathlib.Core.List.{List, [], _∷_, _++_}
-use Prim.Native.Nat.{ℕ, suc, _-_, _≤_, _<_}
+use Prim.Native.Nat.{ℕ, suc, _+_, _-_, _≤_, _<_}
 use native.Mathlib.Omega.{arith}
 use lib.ListN.{length, length-append}
-use Rattle.cbf_walk.specs.Reading.{refused, good, flat}
+use Rattle.cbf_walk.specs.Reading.{refused, good, flat, from}
+use Rattle.cbf_walk.proofs.ReadingLaws.{onto-good}
 use Rattle.cbf_pixels.specs.declared.Refusal.{Refusal}
 use Rattle.cbf_format.specs.Sections as S
 use Rattle.cbf_format.specs.Files as F
@@ -16,7 +17,7 @@ use Rattle.cbf_reader.specs.declared.step.Field.{Field}
 use Rattle.cbf_reader.specs.declared.step.Field.the-variants.{Outside}
 use Rattle.cbf_reader.specs.declared.walk.NextSection.{NextSection}
 use Rattle.cbf_reader.specs.declared.walk.NextSection.the-variants.{Refused, End, Found}
-use Rattle.cbf_reader.proofs.SectionCounts.{sections-lines, sections-found}
+use Rattle.cbf_reader.proofs.SectionCounts.{sections-append, sections-lines, sections-found}
 use Rattle.cbf_reader.proofs.WalkLaws.{come-start, come-length, walked-start, walk-end}
 
 -- the loop came to the cursor, before the first line or after a section
@@ -51,6 +52,13 @@ module _ {limit : ℕ} {file : List ℕ} {c : Cursor} (k : LoopAt limit file c) 
 
   pub loop-count : c .count ≡ length (sections 0 (k .done))
   loop-count = k .come .stands .count ∙ sym (k .come .counted)
+
+  -- the sections so far are the first ones of a file that is accepted
+  pub loop-front : (its : F.Tree) → whole limit file ≡ good its → (rest : List Placed) × (sections 0 its ≡ sections 0 (k .done) ++ rest)
+  loop-front its e =
+      let g = k .come in
+      let b = onto-good (k .done) (from 11 (F.step limit) F.due S.fileLimit file (c .at) (g .state)) its (sym (g .reached .so-far) ∙ e) in
+      (sections (0 + length (flat (k .done))) (b .0), ap (sections 0) (b .1) ∙ sections-append (k .done) (b .0) 0)
 
   -- the file ends at the cursor
   pub loop-past : 0 < length file → length file ≤ c .at → AllRead

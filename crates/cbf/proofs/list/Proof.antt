@@ -59,7 +59,7 @@ returns-3 c =
     let m = b .before .before .before .before in
     let a = m .before .before .before .before .args in
     let r = list-has-room (F.read (a .limit) (now (a .file))) (now (a .out)) (b .measured2 .given .0 .0) (sym (b .measured2 .given .1) ∙ m .lines .ensures .0) (omega (arith, ap length (m .lines .ensures .1))) in
-    (r .1, w .lines2 .ensures .1 ∙ rw (m .lines .ensures .1) (r .2))
+    (r .1 .0, w .lines2 .ensures .1 ∙ rw (m .lines .ensures .1) (r .1 .1))
 
 pub list-spec : {M : Type 1} → statement M
 list-spec =

@@ -1,11 +1,10 @@
 -- `refusal_line` meets its contract: the parts of the line are put one after another. Assumes nothing.
-use mathlib.Core.Path.{_≡_, ap, _∙_, sym}
+use mathlib.Core.Path.{_≡_, refl, _∙_, sym}
 use Prim.Native.Nat.{_+_}
 use native.Mathlib.Omega.{arith}
 use borrow.Author.Needs.{needs}
 use denote.Ref.{now}
 use lib.ListN.{length}
-use Rattle.cbf_pixels.specs.Answers.{gives}
 use Rattle.cbf_walk.specs.Reading.{refused}
 use Rattle.cbf_format.specs.Listing.{listing}
 use Rattle.cbf.proofs.OutcomeLaws.{no-room, has-room, refusal-length, refusal-put}
@@ -32,7 +31,7 @@ returns c =
     let a = c .before .before .before .before .before .args in
     let k = a .refusal .number in
     let p = a .refusal .place in
-    no-room (listing (refused k p)) (now (a .out)) (omega (arith, refusal-length k p))
+    no-room (listing (refused k p)) (now (a .out)) refl (omega (arith, refusal-length k p)) (c .if1 .taken)
 
 slice-aggregate-put-text : tie.Need-slice-aggregate-put-text
 slice-aggregate-put-text c = search needs
@@ -75,9 +74,9 @@ returns-2 c =
     let d1 = b .before .before .digit-count in
     let d2 = b .before .digit-count2 in
     let e : length (listing (refused k p)) ≡ 13 + d1 .result + d2 .result = rw (d1 .ensures .0, d2 .ensures .0) (refusal-length k p) in
-    let r = has-room (listing (refused k p)) (now (a .out)) (rw e (b .if1 .left)) in
+    let r = has-room (listing (refused k p)) (now (a .out)) refl (sym e) (b .if1 .left) in
     let q = refusal-put (now (a .out)) k p (t1 .put-text .ensures) (t2 .put-number .ensures) (t3 .put-text2 .ensures) (t4 .put-number2 .ensures) (t5 .put-text3 .ensures) in
-    (ap gives (sym e) ∙ r .0, q .1 ∙ r .1)
+    (r .0, q .1 ∙ r .1)
 
 pub refusal-line-spec : {M : Type 1} → statement M
 refusal-line-spec =

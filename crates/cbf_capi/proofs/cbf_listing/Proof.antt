@@ -1,4 +1,3 @@
-use Prim.Native.Nat.{_^_, _<_}
 use mathlib.Core.Path.{ap, _∙_}
 use lib.ListN.{length}
 use borrow.Author.Needs.{needs}
