@@ -19,7 +19,7 @@ pub enum Measured {
     Length(usize),
 }
 
-// The lines from the first one on; written says whether they go to out.
+// The lines from the first one on; writing says whether they go to out.
 fn lines_from(file: &[u8], limit: usize, out: &mut [u8], writing: bool, c: Cursor) -> Measured
     requires { ⌜ (c ≡ startCursor) × (0 < length (now file)) × (length (now file) ≤ fileLimit) × (writing ≡ true → Fits (whole limit (now file)) (now out)) ⌝ }
     ensures { λ r. ⌜ r ≡ linesOf (whole limit (now (file .entry))) ⌝ }
