@@ -14,7 +14,7 @@ use Rattle.cbf_format.specs.declared.Encoding.{Encoding}
 use Rattle.cbf_format.specs.Catalogue.{labelWidth, compressionNumber, typeNumber, encodingNumber, zeros, label, entry}
 use Rattle.cbf.specs.Outcomes.{fourNumbers}
 use Rattle.cbf.proofs.Puts.{sets-append}
-use Rattle.cbf.proofs.LineTexts.{name-part}
+use Rattle.cbf_format.proofs.Slices.{slice-part}
 
 -- ---- octets stored from the first on
 
@@ -77,7 +77,7 @@ pub label-pieces : (file : List ℕ) (from to : ℕ) → from ≤ to → to ≤ 
     → label (slice from to file) ≡ take (to - from) (drop from file) ++ zeros (labelWidth - (to - from))
 label-pieces file from to h k =
     ap (λ (n : ℕ). slice from to file ++ zeros (labelWidth - n)) (length-slice from to file k)
-    ∙ ap (λ (l : List ℕ). l ++ zeros (labelWidth - (to - from))) (name-part file from to h k)
+    ∙ ap (λ (l : List ℕ). l ++ zeros (labelWidth - (to - from))) (slice-part file from to h k)
 
 module _ (at size elements : ℕ) (c : Compression) (t : ElementType) (e : Encoding) (id fastest second third : ℕ) (name : List ℕ) where
   pub entry-pieces : (kinds : ℕ) → octets 4 kinds ≡ compressionNumber c ∷ typeNumber t ∷ encodingNumber e ∷ 0 ∷ []

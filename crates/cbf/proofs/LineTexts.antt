@@ -8,7 +8,7 @@ use lib.Seq.{slice, length-sets, length-slice, slice-empty}
 use Rattle.cbf_pixels.specs.declared.ElementType.{ElementType}
 use Rattle.cbf_pixels.specs.declared.Compression.{Compression}
 use Rattle.cbf_format.specs.Listing.{printed, compressionName, typeName, named, spaced, sectionText}
-use Rattle.cbf_reader.proofs.Texts.{slice-take}
+use Rattle.cbf_format.proofs.Slices.{slice-part}
 use Rattle.cbf.specs.Outcomes.{figures}
 use Rattle.cbf.proofs.Puts.{Put}
 
@@ -33,12 +33,8 @@ module _ (file : List ℕ) (from to : ℕ) where
   name-some : from < to → to ≤ length file → named (slice from to file) ≡ 32 ∷ slice from to file
   name-some h k = named-some (slice from to file) (omega (arith, length-slice from to file k))
 
-  -- the name as the code takes it from the file
-  pub name-part : from ≤ to → to ≤ length file → slice from to file ≡ take (to - from) (drop from file)
-  name-part h k = let e : to ≡ from + (to - from) = omega arith in ap (λ (n : ℕ). slice from n file) e ∙ slice-take file from (to - from) (omega arith)
-
   pub name-pieces : from < to → to ≤ length file → named (slice from to file) ≡ (32 ∷ []) ++ take (to - from) (drop from file)
-  name-pieces h k = name-some h k ∙ ap (λ (t : List ℕ). 32 ∷ t) (name-part (omega arith) k)
+  name-pieces h k = name-some h k ∙ ap (λ (t : List ℕ). 32 ∷ t) (slice-part file from to (omega arith) k)
 
   pub name-length : from < to → to ≤ length file → 1 + (to - from) ≡ length (named (slice from to file))
   name-length h k = omega (arith, length-slice from to file k, ap length (name-some h k))

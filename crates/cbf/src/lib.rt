@@ -1,4 +1,5 @@
-// The calls on a file: its listing and its catalogue. Their bytes are defined in cbf_format; the functions here write them to lent memory.
+// The calls on a file: its sections with their octets and pixels, its listing and its catalogue; and packing. What is listed and catalogued
+// is defined in cbf_format; the functions here write it to lent memory.
 mod digits;
 mod entries;
 mod entry;
@@ -10,6 +11,14 @@ mod write_catalogue;
 
 use cbf_pixels::Answer;
 use cbf_pixels::Refusal;
+pub use cbf_pixels::pack;
+pub use cbf_sections::OctetsPlace;
+pub use cbf_sections::octets;
+pub use cbf_sections::octets_answer;
+pub use cbf_sections::octets_at;
+pub use cbf_sections::read;
+pub use cbf_sections::section;
+pub use cbf_sections::unpack;
 use lines::Measured;
 pub use write_catalogue::catalogue;
 ghost use mathlib.Core.Path.{_≡_};

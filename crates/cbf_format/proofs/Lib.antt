@@ -1,4 +1,5 @@
 -- The laws of the definitions in specs/.
+pub mod Slices
 pub mod LineTame
 pub mod SectionTame
 pub mod SectionLaws
@@ -6,3 +7,4 @@ pub mod FileLaws
 pub mod Examples
 pub mod ListingLaws
 pub mod PlaceLaws
+pub mod OctetLaws

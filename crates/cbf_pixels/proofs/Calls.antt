@@ -55,6 +55,12 @@ pub uncompressed-none : (t : ElementType) (n w : ℕ) (os : List ℕ) → w ≡ 
 unfolding unpackPixels unpackUncompressed
 uncompressed-none t n w os e h = read-none (isSigned t) (octetsPer t) n os (λ l. h (l ∙ ap (λ (k : ℕ). k * n) (sym e)))
 
+-- what unpacking as many uncompressed pixels as there are octets for leaves in the output
+pub uncompressed-output : (t : ElementType) (n : ℕ) (os : List ℕ) (out : List ℤ) → n ≤ pixelLimit → length os ≡ octetsPer t * n → n ≤ length out
+    → unpackOutput Uncompressed t n os out ≡ pixelsOf (unpackUncompressed t n os) ++ drop n out
+unfolding Unpacked unpackPixels
+uncompressed-output t n os out h e r = sym (unpack-done Uncompressed t n os out (pixelsOf (unpackUncompressed t n os) ++ drop n out) h (uncompressed-some t n (octetsPer t) os refl e) r refl .1)
+
 -- ---- packing
 
 inside : (t : ElementType) (z : ℤ) → within (least t) (greatest t) z ≡ true → Small z

@@ -100,3 +100,6 @@ subℕ-eq a b c d e = go (ltb a b) refl
 -- an integer of 64 bits, stored and read
 pub held : (z : ℤ) → mag z < 2 ^ 63 → toZ w64 (ofZ w64 z) ≡ z
 held z h = toZ-ofZ (record { sfits = h })
+
+pub within-held : (t : ElementType) (z : ℤ) → within (least t) (greatest t) z ≡ true → toZ w64 (ofZ w64 z) ≡ z
+within-held t z w = held z (omega (arith, within-small t z w))

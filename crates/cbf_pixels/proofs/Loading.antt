@@ -4,12 +4,12 @@ use native.Mathlib.Omega.{arith}
 use native.Mathlib.Nat.{mul-le-mul-left}
 use native.Mathlib.Numerals.{add-one}
 use mathlib.Core.Path.{_≡_, refl, sym, ap, ap₂, _∙_, subst}
-use mathlib.Core.List.{List, [], _∷_, _++_}
+use mathlib.Core.List.{List, [], _∷_, _++_, append-assoc}
 use mathlib.Core.Bool.{Bool, true, false}
 use mathlib.Core.Option.{Option, none, some, Option·map}
 use lib.Dec.{leb}
-use lib.ListN.{length, take, drop, set, length-drop, length-set, take-append-drop}
-use lib.Seq.{drop-drop, take-suc-set, drop-set-lt}
+use lib.ListN.{length, take, drop, set, length-append, length-drop, take-append-drop}
+use lib.Seq.{length-take-le, take-append-le, drop-append-le, take-at, drop-at, drop-drop, set-split}
 use lib.IntN.{ℤ, pos}
 use borrow.Author.Tests.{le-leb, leb-true}
 use Rattle.cbf_pixels.specs.declared.ElementType.{ElementType}
@@ -48,13 +48,28 @@ module _ (s : Bool) (k : ℕ) where
       go true h (some ps) ih = ih (leb-true k (length os) h)
       go false h o ih = refl
 
-  pixels-more : (n : ℕ) (os : List ℕ) → pixelsIn (suc n) os ≡ pixelsIn n os ++ (pixelAfter n os ∷ [])
-  unfolding pixelsIn pixelAfter pixelOf
-  pixels-more zero os = let e : k * 0 ≡ 0 = omega arith in ap (λ (m : ℕ). pixelOf s k (number (take k (drop m os))) ∷ []) (sym e)
-  pixels-more (suc n) os =
+  pixels-add : (n m : ℕ) (os : List ℕ) → pixelsIn (n + m) os ≡ pixelsIn n os ++ pixelsIn m (drop (k * n) os)
+  unfolding pixelsIn
+  pixels-add zero m os = let e : k * 0 ≡ 0 = omega arith in let f : 0 + m ≡ m = omega arith in rw (e, f)
+  pixels-add (suc n) m os =
       let e : k + k * n ≡ k * suc n = omega arith in
-      ap (λ (l : List ℤ). pixelOf s k (number (take k os)) ∷ l)
-      (pixels-more n (drop k os) ∙ ap (λ (l : List ℕ). pixelsIn n (drop k os) ++ (pixelOf s k (number (take k l)) ∷ [])) (drop-drop (k * n) k os ∙ ap (λ (m : ℕ). drop m os) e))
+      let f : suc n + m ≡ suc (n + m) = omega arith in
+      rw f
+      (ap (λ (l : List ℤ). pixelOf s k (number (take k os)) ∷ l)
+      (pixels-add n m (drop k os) ∙ ap (λ (l : List ℕ). pixelsIn n (drop k os) ++ pixelsIn m l) (drop-drop (k * n) k os ∙ ap (λ (i : ℕ). drop i os) e)))
+
+  length-pixels : (n : ℕ) (os : List ℕ) → length (pixelsIn n os) ≡ n
+  unfolding pixelsIn
+  length-pixels zero os = refl
+  length-pixels (suc n) os = ap suc (length-pixels n (drop k os))
+
+  -- octets behind those of the pixels do not matter
+  pub pixels-append : (n : ℕ) (os rest : List ℕ) → length os ≡ k * n → pixelsIn n (os ++ rest) ≡ pixelsIn n os
+  unfolding pixelsIn
+  pixels-append zero os rest e = refl
+  pixels-append (suc n) os rest e =
+      let h : k ≤ length os = omega arith in
+      rw (take-append-le k os rest h, drop-append-le k os rest h, pixels-append n (drop k os) rest (omega (arith, length-drop k os)))
 
   -- n pixels stand at the front of out, which was out₀
   pub record Front (n : ℕ) (os : List ℕ) (out₀ out : List ℤ) : Type 0 where
@@ -66,15 +81,29 @@ module _ (s : Bool) (k : ℕ) where
   unfolding pixelsIn
   front-none os out = record { front = refl; beyond = refl; size = refl }
 
-  pub front-more : (n : ℕ) (os : List ℕ) (out₀ out : List ℤ) (z : ℤ) → Front n os out₀ out → n < length out → z ≡ pixelAfter n os → Front (n + 1) os out₀ (set out n z)
-  front-more n os out₀ out z F h e =
+  -- m pixels more
+  pub front-run : (n m : ℕ) (os : List ℕ) (out₀ out more : List ℤ) → Front n os out₀ out → n + m ≤ length out
+      → more ≡ pixelsIn m (drop (k * n) os) ++ drop (n + m) out → Front (n + m) os out₀ (take n out ++ more)
+  front-run n m os out₀ out more F h e =
+      let q = pixelsIn m (drop (k * n) os) in
+      let l : length (take n out ++ q) ≡ n + m = length-append (take n out) q ∙ ap₂ _+_ (length-take-le n out (omega arith)) (length-pixels m (drop (k * n) os)) in
+      let a : take n out ++ more ≡ take n out ++ q ++ drop (n + m) out = ap (λ (x : List ℤ). take n out ++ x) e ∙ sym (append-assoc (take n out) q (drop (n + m) out)) in
       record {
-        front = rw (add-one n) (take-suc-set out n z h ∙ ap₂ _++_ (F .front) (ap (λ (y : ℤ). y ∷ []) e) ∙ sym (pixels-more n os));
+        front = ap (take (n + m)) a ∙ take-at (take n out ++ q) (drop (n + m) out) (n + m) l ∙ ap (λ (x : List ℤ). x ++ q) (F .front) ∙ sym (pixels-add n m os);
         beyond =
-            drop-set-lt (n + 1) out n z (omega arith)
-            ∙ sym (drop-drop 1 n out) ∙ ap (drop 1) (F .beyond) ∙ drop-drop 1 n out₀;
-        size = length-set out n z ∙ F .size;
+            ap (drop (n + m)) a
+            ∙ drop-at (take n out ++ q) (drop (n + m) out) (n + m) l
+            ∙ sym (drop-drop m n out) ∙ ap (drop m) (F .beyond) ∙ drop-drop m n out₀;
+        size =
+            ap length a
+            ∙ length-append (take n out ++ q) (drop (n + m) out)
+            ∙ omega (arith, l, length-drop (n + m) out, F .size);
       }
+
+  pub front-more : (n : ℕ) (os : List ℕ) (out₀ out : List ℤ) (z : ℤ) → Front n os out₀ out → n < length out → z ≡ pixelAfter n os → Front (n + 1) os out₀ (set out n z)
+  unfolding pixelsIn pixelAfter
+  front-more n os out₀ out z F h e =
+      rw (set-split out n z h) (front-run n 1 os out₀ out (z ∷ drop (suc n) out) F (omega arith) (ap₂ (λ (y : ℤ) (i : ℕ). y ∷ drop i out) e (sym (add-one n))))
 
   pub front-all : (n count : ℕ) (os : List ℕ) (out₀ out : List ℤ) → Front n os out₀ out → n ≡ count → length os ≡ k * count → out ≡ pixelsOf (readPixels s k count os) ++ drop count out₀
   unfolding pixelsOf

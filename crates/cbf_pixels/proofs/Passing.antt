@@ -1,13 +1,14 @@
--- The first pass: biased pixels, one at a time, and many. Assumes nothing.
+-- The first pass: biased pixels, one at a time, many, and in parts. Assumes nothing.
 use Prim.Native.Nat.{ℕ, suc, _+_, _*_, _-_, _/_, _^_, _<_, _≤_}
 use native.Mathlib.Omega.{arith}
 use mathlib.Core.Path.{_≡_, refl, sym, ap, ap₂, _∙_, subst}
 use mathlib.Core.List.{List, [], _∷_}
 use mathlib.Core.Bool.{Bool, true, false}
+use mathlib.Core.Logic.{inl, inr}
 use lib.Dec.{ltb, leb, eqb}
 use lib.Bits.{bitOr, or-shr, or-block, or-self, or-lt, or-shifted}
 use lib.ListN.{length, drop, getD}
-use lib.IntN.{ℤ, pos, negsuc, negℤ, subℕ, natAbs, _+ℤ_, +ℤ-comm, +ℤ-assoc, negℤ-+ℤ}
+use lib.IntN.{ℤ, pos, negsuc, negℤ, subℕ, natAbs, _+ℤ_, _-ℤ_, +ℤ-idl, +ℤ-comm, +ℤ-assoc, negℤ-+ℤ}
 use lib.Signed.{mag, leZ}
 use mir.Syntax.{w64}
 use mir.Val.{toZ, ofZ}
@@ -15,16 +16,17 @@ use mir.Facts.{toZ-pos}
 use borrow.Author.Tests.{ltb-true, ltb-false, le-leb, lt-leb, leb-true, leb-false}
 use Rattle.cbf_pixels.specs.declared.ElementType.{ElementType}
 use Rattle.cbf_pixels.specs.declared.ElementType.the-variants.{U8, S8, U16, S16, U32, S32}
+use Rattle.cbf_pixels.specs.declared.Part.{Part}
 use Rattle.cbf_pixels.specs.Octets.{pick, half, signed}
 use Rattle.cbf_pixels.specs.Pixels.{run-out, readBy, widths, within, least, greatest, unpackByteOffset}
 use Rattle.cbf_pixels.specs.Answers.{isSome}
-use Rattle.cbf_pixels.specs.Steps.{rest, clamped, Took, biasedLeast, biasedZero, biasedGreatest, pixelAt, Top, Between, Passes, Fails, Passed, Summed, Adds, Summable}
+use Rattle.cbf_pixels.specs.Steps.{rest, Enough, clamped, Took, biasedLeast, biasedZero, biasedGreatest, pixelAt, Top, Between, Passes, Fails, Passed, Summed, Adds, Summable, Behind, Stopped, ValidPart}
 use Rattle.cbf_pixels.proofs.Bitwise.{or-left, or-right}
-use Rattle.cbf_pixels.proofs.Integers.{subℕ-pos, subℕ-neg, held}
+use Rattle.cbf_pixels.proofs.Integers.{never, within-small, subℕ-pos, subℕ-neg, held}
 use Rattle.cbf_pixels.proofs.Numbers.{mag-le}
 use Rattle.cbf_pixels.proofs.Differences.{pos-sub, clamped-near, clamped-far, clamped-small}
 use Rattle.cbf_pixels.proofs.PlainOctets.{plain-took}
-use Rattle.cbf_pixels.proofs.Rest.{some-onto, rest-next, rest-outside, rest-run-out, rest-start, rest-end}
+use Rattle.cbf_pixels.proofs.Rest.{some-onto, whole-here, rest-next, rest-outside, rest-run-out, rest-start, rest-end}
 
 -- ---- differences of numbers: sums and order
 
@@ -92,10 +94,6 @@ greatest-is U16 = refl
 greatest-is S16 = refl
 greatest-is U32 = refl
 greatest-is S32 = refl
-
-zero-is : (t : ElementType) → pixelAt t (biasedZero t) ≡ pos 0
-unfolding pixelAt
-zero-is t = subℕ-pos (biasedZero t) (biasedZero t) (omega arith) ∙ ap pos (omega arith)
 
 zero-between : (t : ElementType) → Between (biasedGreatest t) (biasedZero t)
 zero-between U8 = (omega arith, omega arith)
@@ -256,8 +254,8 @@ took-sum biased biased′ {value = value} T e = e ∙ ap (λ (z : ℤ). pos bias
 
 -- ---- one pixel, and pixels one after the other
 
-counts : (t : ElementType) (os : List ℕ) (z : ℤ) (i n m : ℕ) → n ≡ m → isSome (rest t os z i n) ≡ isSome (rest t os z i m)
-counts t os z i n m e = ap (λ (x : ℕ). isSome (rest t os z i x)) e
+counts : (t : ElementType) (os tail : List ℕ) (z : ℤ) (i n m : ℕ) → n ≡ m → isSome (rest t os tail z i n) ≡ isSome (rest t os tail z i m)
+counts t os tail z i n m e = ap (λ (x : ℕ). isSome (rest t os tail z i x)) e
 
 module _ {top : ℕ} {os : List ℕ} {biased biased′ i j : ℕ} {value : ℤ} (T : Took os i value j) (b : Between top biased) (e : pos biased′ ≡ pos biased +ℤ value) where
   sum-is : pos biased′ ≡ pos biased +ℤ clamped (T .difference)
@@ -265,57 +263,65 @@ module _ {top : ℕ} {os : List ℕ} {biased biased′ i j : ℕ} {value : ℤ} 
 
   pub step-in : Between top biased′ → Passes top os biased i 1 biased′ j
   unfolding Passes
-  step-in r t q m =
+  step-in r t q tail m =
       let b′ = subst (λ (n : ℕ). Between n biased) (sym q) b in
       let r′ = subst (λ (n : ℕ). Between n biased′) (sym q) r in
       let s = sum-in t biased biased′ b′ (T .difference) sum-is r′ in
       let w = ap (within (least t) (greatest t)) s ∙ within-between t biased biased′ b′ r′ in
-      ap isSome (rest-next t os (pixelAt t biased) i m (T .difference) j (T .read) w)
-      ∙ some-onto ((pixelAt t biased +ℤ T .difference) ∷ []) (rest t os (pixelAt t biased +ℤ T .difference) j m)
-      ∙ ap (λ (z : ℤ). isSome (rest t os z j m)) s
+      ap isSome (rest-next t os tail (pixelAt t biased) i m (T .difference) j (T .read) w)
+      ∙ some-onto ((pixelAt t biased +ℤ T .difference) ∷ []) (rest t os tail (pixelAt t biased +ℤ T .difference) j m)
+      ∙ ap (λ (z : ℤ). isSome (rest t os tail z j m)) s
 
-  pub step-out : (Between top biased′ → ⊥) → Fails top os biased i 1
+  pub step-out : (Between top biased′ → ⊥) → (tail : List ℕ) → Fails top os tail biased i 1
   unfolding Fails isSome
-  step-out r t q m =
+  step-out r tail t q m =
       let b′ = subst (λ (n : ℕ). Between n biased) (sym q) b in
       let w = sum-out t biased biased′ b′ (T .difference) sum-is (λ r′. r (subst (λ (n : ℕ). Between n biased′) q r′)) in
-      ap isSome (rest-outside t os (pixelAt t biased) i m (T .difference) j (T .read) w)
+      ap isSome (rest-outside t os tail (pixelAt t biased) i m (T .difference) j (T .read) w)
 
 module _ (top : ℕ) (os : List ℕ) (biased i : ℕ) where
-  pub step-run-out : readBy widths (drop i os) ≡ run-out → Fails top os biased i 1
+  -- octets that run out, unless more are behind them
+  pub step-run-out : readBy widths (drop i os) ≡ run-out → (tail : List ℕ) → Enough os tail i 15 → Fails top os tail biased i 1
   unfolding Fails isSome
-  step-run-out e t q m = ap isSome (rest-run-out t os (pixelAt t biased) i m e)
+  step-run-out e tail (inl n) t q m = ap isSome (rest-run-out t os tail (pixelAt t biased) i m e n)
+  step-run-out e tail (inr h) t q m = absurd (whole-here os i h e)
 
   pub passes-none : Passes top os biased i 0 biased i
   unfolding Passes
-  passes-none t q m = counts t os (pixelAt t biased) i (0 + m) m (omega arith)
+  passes-none t q tail m = counts t os tail (pixelAt t biased) i (0 + m) m (omega arith)
 
   pub passes-passes : (n m biased′ j biased″ k : ℕ) → Passes top os biased i n biased′ j → Passes top os biased′ j m biased″ k → Passes top os biased i (n + m) biased″ k
   unfolding Passes
-  passes-passes n m biased′ j biased″ k p q t e r =
-      counts t os (pixelAt t biased) i (n + m + r) (n + (m + r)) (omega arith) ∙ p t e (m + r) ∙ q t e r
+  passes-passes n m biased′ j biased″ k p q t e tail r =
+      counts t os tail (pixelAt t biased) i (n + m + r) (n + (m + r)) (omega arith) ∙ p t e tail (m + r) ∙ q t e tail r
 
-  pub passes-fails : (n m biased′ j : ℕ) → Passes top os biased i n biased′ j → Fails top os biased′ j m → Fails top os biased i (n + m)
+  pub passes-fails : (n m biased′ j : ℕ) (tail : List ℕ) → Passes top os biased i n biased′ j → Fails top os tail biased′ j m → Fails top os tail biased i (n + m)
   unfolding Passes Fails
-  passes-fails n m biased′ j p q t e r =
-      counts t os (pixelAt t biased) i (n + m + r) (n + (m + r)) (omega arith) ∙ p t e (m + r) ∙ q t e r
+  passes-fails n m biased′ j tail p q t e r =
+      counts t os tail (pixelAt t biased) i (n + m + r) (n + (m + r)) (omega arith) ∙ p t e tail (m + r) ∙ q t e r
 
-  pub fails-more : (n m : ℕ) → n ≤ m → Fails top os biased i n → Fails top os biased i m
+  pub fails-more : (n m : ℕ) (tail : List ℕ) → n ≤ m → Fails top os tail biased i n → Fails top os tail biased i m
   unfolding Fails
-  fails-more n m h p t e r =
-      counts t os (pixelAt t biased) i (m + r) (n + (m - n + r)) (omega arith) ∙ p t e (m - n + r)
+  fails-more n m tail h p t e r =
+      counts t os tail (pixelAt t biased) i (m + r) (n + (m - n + r)) (omega arith) ∙ p t e (m - n + r)
 
-  -- what a part answers
-  pub passed-not : (n j : ℕ) → Fails top os biased i n → j ≤ length os → Passed top os biased i n 0 j
+  -- what a step answers
+  pub passed-not : (n j : ℕ) → ((tail : List ℕ) → Enough os tail i 480 → Fails top os tail biased i n) → j ≤ length os → Passed top os biased i n 0 j
   passed-not n j f h = record { failed = λ _. f; passed = λ z. absurd (z refl); inside = h }
 
   pub passed-to : (n biased′ j : ℕ) → Between top biased′ → Passes top os biased i n biased′ j → j ≤ length os → Passed top os biased i n biased′ j
   passed-to n biased′ j b p h =
       record { failed = λ z. let l = b .0 in let y : ⊥ = omega arith in absurd y; passed = λ _. (b, p); inside = h }
 
-  pub passed-stop : (n m biased′ j : ℕ) → Passes top os biased i m biased′ j → Fails top os biased′ j 1 → m < n → Passed top os biased i n 0 0
-  passed-stop n m biased′ j p f h =
-      passed-not n 0 (fails-more (m + 1) n (omega arith) (passes-fails m 1 biased′ j p f)) (omega arith)
+  -- after m pixels, for which there were octets enough
+  pub passed-stop : (n m biased′ j : ℕ) → Passes top os biased i m biased′ j → j ≤ i + 15 * m → ((tail : List ℕ) → Enough os tail j 15 → Fails top os tail biased′ j 1) → m < n → n ≤ 32
+      → Passed top os biased i n 0 0
+  passed-stop n m biased′ j p r f h l =
+      passed-not n 0 (λ tail w. fails-more (m + 1) n tail (omega arith) (passes-fails m 1 biased′ j tail p (f tail (left tail w)))) (omega arith)
+    where
+      left : (tail : List ℕ) → Enough os tail i 480 → Enough os tail j 15
+      left tail (inl e) = inl e
+      left tail (inr e) = inr (omega arith)
 
 -- ---- the bitwise or of biased pixels
 
@@ -372,16 +378,16 @@ module _ (top : ℕ) (os : List ℕ) (b₀ i₀ n biased all i biased′ j : ℕ
               absurd y
           go false q a g = ltb-false biased′ biasedLeast q
 
-      bad : top < bitOr all biased′ → Fails top os b₀ i₀ (n + 1)
-      bad g = go (ltb top all) refl
+      bad : top < bitOr all biased′ → (tail : List ℕ) → Fails top os tail b₀ i₀ (n + 1)
+      bad g tail = go (ltb top all) refl
         where
-          go : (c : Bool) → ltb top all ≡ c → Fails top os b₀ i₀ (n + 1)
-          go true q = fails-more top os b₀ i₀ n (n + 1) (omega arith) (X .bad (ltb-true top all q))
+          go : (c : Bool) → ltb top all ≡ c → Fails top os tail b₀ i₀ (n + 1)
+          go true q = fails-more top os b₀ i₀ n (n + 1) tail (omega arith) (X .bad (ltb-true top all q) tail)
           go false q =
               let a = ltb-false top all q in
               let G = X .good a in
-              passes-fails top os b₀ i₀ n 1 biased i (G .1)
-              (step-out T (G .0) e (λ r. let y : ⊥ = omega (arith, or-in R all biased′ (X .least, a) r) in absurd y))
+              passes-fails top os b₀ i₀ n 1 biased i tail (G .1)
+              (step-out T (G .0) e (λ r. let y : ⊥ = omega (arith, or-in R all biased′ (X .least, a) r) in absurd y) tail)
 
 pub adds-none : (os : List ℕ) (biased all i : ℕ) → i ≤ length os → Adds os 0 biased all i biased all i
 adds-none os biased all i h =
@@ -422,12 +428,12 @@ module _ (top : ℕ) (os : List ℕ) (biased i n biased′ all j : ℕ) where
   adds-summed R b A =
       subst (λ (x : ℕ). Summed top os biased i x biased′ all j) (omega arith) (A .sums top biased i 0 R (summed-start top os biased i b))
 
-  -- what a part answers after a sum
+  -- what a step answers after a sum
   pub summed-to : Summed top os biased i n biased′ all j → all ≤ top → j ≤ length os → Passed top os biased i n biased′ j
   summed-to X a h = let G = X .good a in passed-to top os biased i n biased′ j (G .0) (G .1) h
 
   pub summed-not : (m k : ℕ) → Summed top os biased i n biased′ all j → top < all → n ≤ m → k ≤ length os → Passed top os biased i m 0 k
-  summed-not m k X a l h = passed-not top os biased i m k (fails-more top os biased i n m l (X .bad a)) h
+  summed-not m k X a l h = passed-not top os biased i m k (λ tail _. fails-more top os biased i n m tail l (X .bad a tail)) h
 
 -- ---- a plain octet
 
@@ -440,26 +446,98 @@ adds-plain os n b₀ a₀ i biased all biased′ d A s h p v e =
     (adds-adds os n 1 b₀ a₀ i biased all (i + n) biased′ (bitOr all biased′) (i + n + 1) A
     (adds-one os biased all (i + n) biased′ (i + n + 1) (signed 1 (getD os (i + n) 0)) s T (e ∙ ap (λ (z : ℤ). pos biased +ℤ z) v)))
 
--- ---- all pixels
+-- ---- parts
 
 pub top-at : (t : ElementType) {top : ℕ} → top ≡ biasedGreatest t → Top top
 top-at t g = subst Top (sym g) (top-is t)
 
-pub start-at : (t : ElementType) {top start : ℕ} → top ≡ biasedGreatest t → start ≡ biasedZero t → Between top start
-start-at t {start = start} g z =
-    subst (λ (x : ℕ). Between x start) (sym g) (subst (Between (biasedGreatest t)) (sym z) (zero-between t))
+-- biased zero, and a pixel biased
+pub zero-small : (t : ElementType) → (biasedLeast ≤ biasedZero t) × (biasedZero t ≤ 2 ^ 41)
+zero-small t = let b = zero-between t in let s = top-small (biasedGreatest t) (top-is t) in (b .0, omega (arith, b .1))
 
-module _ (t : ElementType) (os : List ℕ) (count top start : ℕ) (g : top ≡ biasedGreatest t) (z : start ≡ biasedZero t) where
-  whole-is : isSome (unpackByteOffset t count os) ≡ isSome (rest t os (pixelAt t start) 0 (count + 0))
-  whole-is =
-      ap isSome (rest-start t os count)
-      ∙ ap (λ (x : ℤ). isSome (rest t os x 0 count)) (sym (ap (pixelAt t) z ∙ zero-is t))
-      ∙ counts t os (pixelAt t start) 0 count (count + 0) (omega arith)
+module _ (t : ElementType) (z : ℤ) (biased : ℕ) (e : pos biased ≡ pos (biasedZero t) +ℤ z) where
+  pub pixel-at : pixelAt t biased ≡ z
+  unfolding pixelAt
+  pixel-at =
+      sym (sub-sum (biasedZero t) (biasedZero t) biased z e)
+      ∙ ap (λ (x : ℤ). x +ℤ z) (subℕ-pos (biasedZero t) (biasedZero t) (omega arith) ∙ ap pos (omega arith))
+      ∙ +ℤ-idl z
 
-  pub unpacks-not : Fails top os start 0 count → false ≡ isSome (unpackByteOffset t count os)
-  unfolding Fails
-  unpacks-not f = sym (whole-is ∙ f t (sym g) 0)
+  pub pixel-between : within (least t) (greatest t) z ≡ true → Between (biasedGreatest t) biased
+  pixel-between w = go (leb biasedLeast biased) refl (leb biased (biasedGreatest t)) refl
+    where
+      beyond : (Between (biasedGreatest t) biased → ⊥) → Between (biasedGreatest t) biased
+      beyond n =
+          never (sym (within-beyond t (biasedZero t) biased (zero-between t) n) ∙ ap (within (least t) (greatest t)) pixel-at ∙ w)
 
-  pub unpacks-to : (biased j : ℕ) → Passes top os start 0 count biased j → j ≤ length os → eqb j (length os) ≡ isSome (unpackByteOffset t count os)
-  unfolding Passes
-  unpacks-to biased j p h = sym (whole-is ∙ p t (sym g) 0 ∙ rest-end t os (pixelAt t biased) j h)
+      go : (c : Bool) → leb biasedLeast biased ≡ c → (u : Bool) → leb biased (biasedGreatest t) ≡ u → Between (biasedGreatest t) biased
+      go true p true q = (leb-true biasedLeast biased p, leb-true biased (biasedGreatest t) q)
+      go false p u q = let h = leb-false biasedLeast biased p in beyond (λ b. omega (arith, b .0))
+      go true p false q = let h = leb-false biased (biasedGreatest t) q in beyond (λ b. omega (arith, b .1))
+
+-- a biased pixel turned back, as the machine computes it
+module _ (t : ElementType) (biased zero : ℕ) (b : Between (biasedGreatest t) biased) (e : zero ≡ biasedZero t) where
+  pub between-small : (biased < 2 ^ 63) × (zero < 2 ^ 63)
+  between-small = let s = top-small (biasedGreatest t) (top-is t) in let z = zero-small t in (omega (arith, b .1), omega (arith, z .1))
+
+  pub pixel-is : toZ w64 biased -ℤ toZ w64 zero ≡ pixelAt t biased
+  unfolding pixelAt
+  pixel-is = ap₂ _-ℤ_ (toZ-pos w64 (between-small .0)) (toZ-pos w64 (between-small .1)) ∙ pos-sub biased zero ∙ ap (subℕ biased) e
+
+  pub pixel-fits : mag (toZ w64 biased -ℤ toZ w64 zero) < 2 ^ 63
+  pixel-fits =
+      subst (λ (z : ℤ). mag z < 2 ^ 63) (sym pixel-is)
+      (omega (arith, within-small t (pixelAt t biased) (within-between t (biasedZero t) biased (zero-between t) b)))
+
+-- what the first pass answers
+module _ (t : ElementType) (os : List ℕ) (ended : Bool) (z : ℤ) (i count top start : ℕ) (g : top ≡ biasedGreatest t) (z-is : pixelAt t start ≡ z) where
+  starts : (tail : List ℕ) (n : ℕ) → n ≡ count → isSome (rest t os tail z i count) ≡ isSome (rest t os tail (pixelAt t start) i n)
+  starts tail n e = ap (λ (x : ℤ). isSome (rest t os tail x i count)) (sym z-is) ∙ counts t os tail (pixelAt t start) i count n (sym e)
+
+  module _ (r : Part) where
+    pub valid-not : (n : ℕ) → ((tail : List ℕ) → Behind ended tail → Fails top os tail start i n) → n ≤ count → r .good ≡ false → r .count ≤ count → r .last .next ≤ length os → r .last .next ≤ i
+        → ValidPart t os ended z i count r
+    unfolding Fails
+    valid-not n f h b few inside still =
+        record {
+          few = few;
+          inside = inside;
+          still = λ _. still;
+          failed = λ _ tail w. starts tail (n + (count - n)) (omega arith) ∙ f tail w t (sym g) (count - n);
+          passed = λ y. never (sym b ∙ y);
+          typed = λ y. never (sym b ∙ y);
+          stopped = λ y. never (sym b ∙ y);
+        }
+
+    pub valid-to : (k biased j : ℕ) → Passes top os start i k biased j → Between top biased → k ≤ count → j ≤ length os → (k ≡ 0 → j ≡ i) → Stopped os ended count k j
+        → (r .good ≡ true) × (r .count ≡ k) × (r .last .pixel ≡ pixelAt t biased) × (r .last .next ≡ j) → ValidPart t os ended z i count r
+    unfolding Passes
+    valid-to k biased j p b h inside still w e =
+        record {
+          few = omega (arith, e .1);
+          inside = omega (arith, e .3);
+          still = λ y. omega (arith, e .3, still (sym (e .1) ∙ y));
+          failed = λ y. never (sym y ∙ e .0);
+          passed = λ _ tail _. starts tail (k + (count - k)) (omega arith) ∙ p t (sym g) tail (count - k) ∙ sym (rw (e .1, e .2, e .3));
+          typed = λ _. ap (within (least t) (greatest t)) (e .2) ∙ within-between t (biasedZero t) biased (zero-between t) (subst (λ (n : ℕ). Between n biased) g b);
+          stopped = λ _. rw (e .1, e .3) w;
+        }
+
+-- all octets as one part
+pub zero-within : (t : ElementType) → within (least t) (greatest t) (pos 0) ≡ true
+zero-within t =
+    let e : pos (biasedZero t) ≡ pos (biasedZero t) +ℤ pos 0 = ap pos (omega arith) in
+    ap (within (least t) (greatest t)) (sym (pixel-at t (pos 0) (biasedZero t) e)) ∙ within-between t (biasedZero t) (biasedZero t) (zero-between t) (zero-between t)
+
+module _ (t : ElementType) (os : List ℕ) (count : ℕ) (r : Part) (v : ValidPart t os true (pos 0) 0 count r) where
+  pub unpacks-not : r .good ≡ false → false ≡ isSome (unpackByteOffset t count os)
+  unpacks-not b = sym (ap isSome (rest-start t os count) ∙ v .failed b [] (λ _. refl))
+
+  pub unpacks-to : r .good ≡ true → eqb (r .last .next) (length os) ≡ isSome (unpackByteOffset t count os)
+  unpacks-to b =
+      sym (ap isSome (rest-start t os count) ∙ v .passed b [] (λ _. refl) ∙ counts t os [] (r .last .pixel) (r .last .next) (count - r .count) 0 (done (v .stopped b))
+      ∙ rest-end t os (r .last .pixel) (r .last .next) (v .inside))
+    where
+      done : Stopped os true count (r .count) (r .last .next) → count - r .count ≡ 0
+      done (inl e) = omega arith
+      done (inr h) = never (sym (h .0))

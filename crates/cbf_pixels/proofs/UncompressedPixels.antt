@@ -110,6 +110,9 @@ bounded S16 = record { least-is = refl; greatest-is = refl; some-octet = omega a
 bounded U32 = record { least-is = refl; greatest-is = refl; some-octet = omega arith }
 bounded S32 = record { least-is = refl; greatest-is = refl; some-octet = omega arith }
 
+pub has-octets : (t : ElementType) → 0 < octetsPer t
+has-octets t = bounded t .some-octet
+
 holds-of : (t : ElementType) (z : ℤ) → within (least t) (greatest t) z ≡ true → Holds (isSigned t) (octetsPer t) z
 unfolding within
 holds-of t z e =

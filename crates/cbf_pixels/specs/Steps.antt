@@ -4,6 +4,7 @@ use Prim.Native.Nat.{ℕ, zero, suc, _+_, _*_, _-_, _%_, _^_, _<_, _≤_}
 use mathlib.Core.Path.{_≡_}
 use mathlib.Core.List.{List, [], _∷_, _++_}
 use mathlib.Core.Bool.{Bool, true, false}
+use mathlib.Core.Logic.{_⊎_}
 use mathlib.Core.Option.{Option, none, some}
 use lib.Dec.{leb, ltb}
 use lib.ListN.{length, take, drop, getD}
@@ -16,6 +17,7 @@ use Rattle.cbf_pixels.specs.Pixels.{Read, run-out, got, readBy, widths, 
 use Rattle.cbf_pixels.specs.Uncompressed.{octetsPer}
 use Rattle.cbf_pixels.specs.Answers.{isSome}
 use Rattle.cbf_pixels.specs.declared.ElementType.{ElementType}
+use Rattle.cbf_pixels.specs.declared.Part.{Part}
 use Rattle.cbf_pixels.specs.declared.measure.Size.{Size}
 use Rattle.cbf_pixels.specs.declared.measure.Size.the-variants.{Outside, Octets}
 use Rattle.cbf_pixels.specs.declared.ElementType.the-variants.{U8, S8, U16, S16, U32, S32}
@@ -59,9 +61,14 @@ pub record PlainRun (os : List ℕ) (i limit n : ℕ) : Type 0 where
   pub inside : i + n ≤ length os
   pub blocks : n % 32 ≡ 0
 
--- what is left to unpack after the pixel z: n pixels, from the octet i on
-unfoldable pub rest : ElementType → List ℕ → ℤ → ℕ → ℕ → Option (List ℤ)
-rest t os z i n = unpackFrom (least t) (greatest t) z n (drop i os)
+-- what is left to unpack after the pixel z: n pixels, from the octet i on. Octets may come through a window: tail stands for
+-- the octets behind those that are there.
+unfoldable pub rest : ElementType → List ℕ → List ℕ → ℤ → ℕ → ℕ → Option (List ℤ)
+rest t os tail z i n = unpackFrom (least t) (greatest t) z n (drop i os ++ tail)
+
+-- nothing is behind the octets that are there, or size of them are there from i on
+abbrev pub Enough : List ℕ → List ℕ → ℕ → ℕ → Type 0
+Enough os tail i size = (tail ≡ []) ⊎ (i + size ≤ length os)
 
 -- ---- The first pass. It holds a pixel "biased": as its distance above the type's least one, plus 2^40.
 
@@ -103,15 +110,17 @@ Between top biased = (biasedLeast ≤ biased) × (biased ≤ top)
 -- left after them does
 unfoldable pub Passes : ℕ → List ℕ → ℕ → ℕ → ℕ → ℕ → ℕ → Type 0
 Passes top os biased i n biased′ j =
-    (t : ElementType) → biasedGreatest t ≡ top → (m : ℕ) → isSome (rest t os (pixelAt t biased) i (n + m)) ≡ isSome (rest t os (pixelAt t biased′) j m)
+    (t : ElementType) → biasedGreatest t ≡ top → (tail : List ℕ) (m : ℕ)
+    → isSome (rest t os tail (pixelAt t biased) i (n + m)) ≡ isSome (rest t os tail (pixelAt t biased′) j m)
 
--- the n pixels from the octet i on do not unpack
-unfoldable pub Fails : ℕ → List ℕ → ℕ → ℕ → ℕ → Type 0
-Fails top os biased i n = (t : ElementType) → biasedGreatest t ≡ top → (m : ℕ) → isSome (rest t os (pixelAt t biased) i (n + m)) ≡ false
+-- the n pixels from the octet i on do not unpack, with tail behind the octets
+unfoldable pub Fails : ℕ → List ℕ → List ℕ → ℕ → ℕ → ℕ → Type 0
+Fails top os tail biased i n = (t : ElementType) → biasedGreatest t ≡ top → (m : ℕ) → isSome (rest t os tail (pixelAt t biased) i (n + m)) ≡ false
 
--- what a part of the first pass answers: 0 for pixels that do not unpack, else where the n pixels lead
+-- what a step of the first pass answers: 0 for pixels that do not unpack, else where the n pixels lead. Octets for 32 pixels
+-- of 15 are there, or nothing is behind the octets.
 pub record Passed (top : ℕ) (os : List ℕ) (biased i n biased′ j : ℕ) : Type 0 where
-  pub failed : biased′ ≡ 0 → Fails top os biased i n
+  pub failed : biased′ ≡ 0 → (tail : List ℕ) → Enough os tail i 480 → Fails top os tail biased i n
   pub passed : (biased′ ≡ 0 → ⊥) → Between top biased′ × Passes top os biased i n biased′ j
   pub inside : j ≤ length os
 
@@ -119,7 +128,7 @@ pub record Passed (top : ℕ) (os : List ℕ) (biased i n biased′ j : ℕ) : T
 -- type exactly when all is above top, as the type's size is a power of two.
 pub record Summed (top : ℕ) (os : List ℕ) (biased i n biased′ all j : ℕ) : Type 0 where
   pub good : all ≤ top → Between top biased′ × Passes top os biased i n biased′ j
-  pub bad : top < all → Fails top os biased i n
+  pub bad : top < all → (tail : List ℕ) → Fails top os tail biased i n
   pub least : biasedLeast ≤ all
 
 -- n more pixels are summed up, from biased, all and the octet i to biased′, all′ and the octet j
@@ -137,11 +146,15 @@ Summable n biased = (2 ^ 39 + n * 2 ^ 33 ≤ biased) × (biased + n * 2 ^ 36 ≤
 -- ---- The second pass. It tests nothing: its callers know that what is left unpacks, and that z, the last pixel, is in the
 -- range of some type, so that sums do not wrap.
 
-pub record Unpacks (os : List ℕ) (z : ℤ) (i n : ℕ) : Type 0 where
+-- n pixels unpack, with octets behind those that are there. Of those that are there, size stand from i on, unless nothing
+-- is behind them.
+pub record Unpacks (os : List ℕ) (z : ℤ) (i n size : ℕ) : Type 0 where
   pub type : ElementType
   pub more : ℕ
-  pub says : isSome (rest type os z i (n + more)) ≡ true
+  pub tail : List ℕ
+  pub says : isSome (rest type os tail z i (n + more)) ≡ true
   pub before : mag z < 2 ^ 32
+  pub enough : Enough os tail i size
 
 abbrev pub onto : List ℤ → Option (List ℤ) → Option (List ℤ)
 onto xs none = none
@@ -152,9 +165,54 @@ pub record Filled (os : List ℕ) (z : ℤ) (i n : ℕ) (z′ : ℤ) (j k : ℕ)
   pub pixels : List ℤ
   pub many : length pixels ≡ n
   pub wrote : out′ ≡ sets out k pixels
-  pub leads : (t : ElementType) (m : ℕ) → isSome (rest t os z i (n + m)) ≡ true → rest t os z i (n + m) ≡ onto pixels (rest t os z′ j m)
+  pub leads : (t : ElementType) (tail : List ℕ) (m : ℕ) → isSome (rest t os tail z i (n + m)) ≡ true → rest t os tail z i (n + m) ≡ onto pixels (rest t os tail z′ j m)
   pub after : mag z′ < 2 ^ 32
+  pub reach : j ≤ i + 15 * n
   pub inside : j ≤ length os
+
+-- ---- Parts. Octets that come through a window are unpacked part by part: each pass goes over the octets that are there, and
+-- stops where fewer than 480 are left (32 pixels of at most 15), unless the octets have ended.
+
+-- what may be behind the octets that are there
+abbrev pub Behind : Bool → List ℕ → Type 0
+Behind ended tail = ended ≡ true → tail ≡ []
+
+-- a pass of count pixels stopped after n of them, at the octet j: it is done, or few octets are left
+abbrev pub Stopped : List ℕ → Bool → ℕ → ℕ → ℕ → Type 0
+Stopped os ended count n j = (n ≡ count) ⊎ ((ended ≡ false) × (length os < j + 480))
+
+-- the first pass over count pixels after z, from the octet i on
+pub record ValidPart (t : ElementType) (os : List ℕ) (ended : Bool) (z : ℤ) (i count : ℕ) (r : Part) : Type 0 where
+  pub few : r .count ≤ count
+  pub inside : r .last .next ≤ length os
+  pub still : r .count ≡ 0 → r .last .next ≤ i
+  pub failed : r .good ≡ false → (tail : List ℕ) → Behind ended tail → isSome (rest t os tail z i count) ≡ false
+  pub passed : r .good ≡ true → (tail : List ℕ) → Behind ended tail
+      → isSome (rest t os tail z i count) ≡ isSome (rest t os tail (r .last .pixel) (r .last .next) (count - r .count))
+  pub typed : r .good ≡ true → within (least t) (greatest t) (r .last .pixel) ≡ true
+  pub stopped : r .good ≡ true → Stopped os ended count (r .count) (r .last .next)
+
+-- the count pixels after z unpack, in some type and with some octets behind those that are there
+pub record Fillable (os : List ℕ) (ended : Bool) (z : ℤ) (i count : ℕ) : Type 0 where
+  pub type : ElementType
+  pub tail : List ℕ
+  pub last : Behind ended tail
+  pub unpacks : isSome (rest type os tail z i count) ≡ true
+  pub before : mag z < 2 ^ 32
+
+-- the second pass over them wrote pixels to out from k on, giving out′
+pub record FilledPart (os : List ℕ) (ended : Bool) (z : ℤ) (i count k : ℕ) (out out′ : List ℤ) (r : Part) : Type 0 where
+  pub good : r .good ≡ true
+  pub few : r .count ≤ count
+  pub inside : r .last .next ≤ length os
+  pub still : r .count ≡ 0 → r .last .next ≤ i
+  pub pixels : List ℤ
+  pub many : length pixels ≡ r .count
+  pub wrote : out′ ≡ sets out k pixels
+  pub leads : (t : ElementType) (tail : List ℕ) → Behind ended tail → isSome (rest t os tail z i count) ≡ true
+      → rest t os tail z i count ≡ onto pixels (rest t os tail (r .last .pixel) (r .last .next) (count - r .count))
+  pub after : mag (r .last .pixel) < 2 ^ 32
+  pub stopped : Stopped os ended count (r .count) (r .last .next)
 
 -- ---- Packing
 

@@ -10,6 +10,9 @@ mod validate;
 mod window;
 mod write;
 
+pub use fill::fill_part;
+pub use uncompressed::octets_per;
+pub use validate::validate_part;
 ghost use mathlib.Core.Path.{_≡_};
 ghost use Prim.Native.Nat.{_≤_};
 ghost use lib.ListN.{length};
@@ -41,6 +44,19 @@ pub struct Refusal {
 pub enum Answer {
     Length(usize),
     Refused(Refusal),
+}
+
+// Where unpacking stands: the last pixel, and where the next difference starts.
+pub struct Last {
+    pub pixel: i64,
+    pub next: usize,
+}
+
+// A part of the pixels: whether they unpack, how many they are, and where unpacking stands after them.
+pub struct Part {
+    pub good: bool,
+    pub count: usize,
+    pub last: Last,
 }
 
 fn refused(number: u32) -> Answer

@@ -1,6 +1,7 @@
-// Runs of plain octets: octets other than the escape 80, each of which is a difference.
+// How unpacking goes on: runs of plain octets (octets other than the escape 80, each of which is a difference), and parts.
 ghost use mathlib.Core.Path.{_≡_};
 ghost use mathlib.Core.Bool.{true, false};
+ghost use mathlib.Core.Logic.{_⊎_};
 ghost use Prim.Native.Nat.{_+_, _<_, _≤_};
 ghost use lib.ListN.{length};
 ghost use Rattle.cbf_pixels.specs.Steps.{Plain, PlainRun};
@@ -52,4 +53,17 @@ pub fn part(n: usize) -> usize
     ensures { λ r. ⌜ (r ≤ n) × (r ≤ 32) × (0 < n → 0 < r) ⌝ }
 {
     if n < 32 { n } else { 32 }
+}
+
+// 32 pixels of at most 15 octets.
+const PART_OCTETS: usize = 480;
+
+// Whether unpacking waits for more octets: they have not ended, and so few are left that a part could run out of them.
+pub fn waits(ended: bool, left: usize) -> bool
+    ensures { λ r. ⌜ (r ≡ true → (ended ≡ false) × (left < 480)) × (r ≡ false → (ended ≡ true) ⊎ (480 ≤ left)) ⌝ }
+{
+    if ended {
+        return false;
+    }
+    left < PART_OCTETS
 }

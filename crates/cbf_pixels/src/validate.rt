@@ -1,15 +1,18 @@
 // The first pass of unpacking: whether octets unpack. It writes nothing.
 use crate::ElementType;
+use crate::Last;
+use crate::Part;
 use crate::difference;
 use crate::octets;
 use crate::plain;
 ghost use mathlib.Core.Path.{_≡_};
+ghost use mathlib.Core.Bool.{true};
 ghost use Prim.Native.Nat.{_+_, _%_, _<_, _≤_, _^_};
 ghost use lib.ListN.{length};
 ghost use lib.IntN.{pos, natAbs, _+ℤ_};
-ghost use Rattle.cbf_pixels.specs.Pixels.{unpackByteOffset};
+ghost use Rattle.cbf_pixels.specs.Pixels.{within, least, greatest, unpackByteOffset};
 ghost use Rattle.cbf_pixels.specs.Answers.{isSome};
-ghost use Rattle.cbf_pixels.specs.Steps.{Whole, Plain, biasedLeast, biasedZero, biasedGreatest, Top, Between, Passed, Adds, Summable};
+ghost use Rattle.cbf_pixels.specs.Steps.{Whole, Plain, biasedLeast, biasedZero, biasedGreatest, pixelAt, Top, Between, Passed, Adds, Summable, ValidPart};
 
 const BIASED_LEAST: u64 = 1099511627776;
 
@@ -152,9 +155,9 @@ fn pass_32(octets: &[u8], i: usize, biased: u64, top: u64) -> State
     }
 }
 
-// n pixels, each tested by itself.
+// n pixels, at most 32, each tested by itself.
 fn pass_each(octets: &[u8], i: usize, biased: u64, top: u64, n: usize) -> State
-    requires { ⌜ Top top × Between top biased × (i ≤ length (now octets)) ⌝ }
+    requires { ⌜ Top top × Between top biased × (i ≤ length (now octets)) × (n ≤ 32) ⌝ }
     ensures { λ r. ⌜ Passed top (now (octets .entry)) biased i n (r .biased) (r .next) ⌝ }
 {
     let mut last = biased;
@@ -195,33 +198,83 @@ fn pass_few(octets: &[u8], i: usize, biased: u64, top: u64, n: usize) -> State
     pass_32(octets, i, biased, top)
 }
 
-// Whether the octets unpack to count pixels.
-pub fn validate(kind: ElementType, octets: &[u8], count: usize) -> bool
-    ensures { λ r. ⌜ r ≡ isSome (unpackByteOffset kind count (now (octets .entry))) ⌝ }
+fn biased_of(kind: ElementType, pixel: i64) -> u64
+    requires { ⌜ within (least kind) (greatest kind) pixel ≡ true ⌝ }
+    ensures { λ r. ⌜ Between (biasedGreatest kind) r × (pixelAt kind r ≡ pixel) ⌝ }
+{
+    sum(biased_zero(kind), pixel)
+}
+
+fn pixel_of(kind: ElementType, biased: u64) -> i64
+    requires { ⌜ Between (biasedGreatest kind) biased ⌝ }
+    ensures { λ r. ⌜ r ≡ pixelAt kind biased ⌝ }
+{
+    biased as i64 - biased_zero(kind) as i64
+}
+
+// k pixels that lead to s.
+fn passed(kind: ElementType, s: State, k: usize) -> Part
+    requires { ⌜ Between (biasedGreatest kind) (s .biased) ⌝ }
+    ensures { λ r. ⌜ (r .good ≡ true) × (r .count ≡ k) × (r .last .pixel ≡ pixelAt kind (s .biased)) × (r .last .next ≡ s .next) ⌝ }
+{
+    let last = Last {
+        pixel: pixel_of(kind, s.biased),
+        next: s.next,
+    };
+    Part {
+        good: true,
+        count: k,
+        last: last,
+    }
+}
+
+// Whether octets unpack to count pixels after s: those that are there, and all of them where the octets have ended.
+pub fn validate_part(kind: ElementType, octets: &[u8], ended: bool, s: Last, count: usize) -> Part
+    requires { ⌜ (within (least kind) (greatest kind) (s .pixel) ≡ true) × (s .next ≤ length (now octets)) ⌝ }
+    ensures { λ r. ⌜ ValidPart kind (now (octets .entry)) ended (s .pixel) (s .next) count r ⌝ }
 {
     let top = biased_greatest(kind);
-    let mut s = State {
-        biased: biased_zero(kind),
-        next: 0,
+    let mut at = State {
+        biased: biased_of(kind, s.pixel),
+        next: s.next,
     };
     let mut k: usize = 0;
     while k < count {
-        let i = s.next;
+        let i = at.next;
+        if plain::waits(ended, octets.len() - i) {
+            return passed(kind, at, k);
+        }
         let mut n = plain::plain_run(octets, i, count - k);
         if n == 0 {
             n = plain::part(count - k);
-            s = pass_few(octets, i, s.biased, top, n);
+            at = pass_few(octets, i, at.biased, top, n);
         } else {
-            let biased = pass_run(octets, i, n, s.biased, top);
-            s = State {
+            let biased = pass_run(octets, i, n, at.biased, top);
+            at = State {
                 biased: biased,
                 next: i + n,
             };
         }
-        if s.biased == 0 {
-            return false;
+        if at.biased == 0 {
+            return Part {
+                good: false,
+                count: 0,
+                last: s,
+            };
         }
         k += n;
     }
-    s.next == octets.len()
+    passed(kind, at, k)
+}
+
+// Whether the octets unpack to count pixels.
+pub fn validate(kind: ElementType, octets: &[u8], count: usize) -> bool
+    ensures { λ r. ⌜ r ≡ isSome (unpackByteOffset kind count (now (octets .entry))) ⌝ }
+{
+    let start = Last { pixel: 0, next: 0 };
+    let all = validate_part(kind, octets, true, start, count);
+    if !all.good {
+        return false;
+    }
+    all.last.next == octets.len()
 }

@@ -29,7 +29,8 @@ use Rattle.cbf_reader.specs.declared.base64_text.Base64Line.{Base64Line}
 use Rattle.cbf_reader.specs.declared.base64_text.Base64Line.the-variants.{Refused, Closing, Text}
 use Rattle.cbf_reader.specs.declared.base64_text.Base64Text.{Base64Text}
 use Rattle.cbf_reader.specs.declared.base64_text.Base64Text.the-variants as T
-use Rattle.cbf_reader.proofs.Texts.{same-lengths, slice-take}
+use Rattle.cbf_format.proofs.Slices.{slice-take}
+use Rattle.cbf_reader.proofs.Texts.{same-lengths}
 use Rattle.cbf_reader.proofs.GroupLaws.{Plains, no-symbol, groups-bytes, plain-bytes}
 use Rattle.cbf_reader.proofs.LineLaws.{Far, Good, line-good, textual-inside, line-run, refused-run}
 use Rattle.cbf_reader.proofs.ClosingLaws.{and-both, ahead, line-ahead, blank-textual, slice-then, ended-at, ended-not}

@@ -17,7 +17,8 @@ use Rattle.cbf_format.specs.Headers.{nameByte, splitColon, addName, someName, m
 use Rattle.cbf_reader.specs.Places.{Run, farthestFrom, lineAt}
 use Rattle.cbf_reader.specs.declared.line.Line.{Line}
 use Rattle.cbf_reader.specs.declared.line.Line.the-variants.{Refused, Text}
-use Rattle.cbf_reader.proofs.Texts.{by-run, run-tail, slice-take}
+use Rattle.cbf_format.proofs.Slices.{slice-take}
+use Rattle.cbf_reader.proofs.Texts.{by-run, run-tail}
 
 -- ---- where a scan may end
 

@@ -20,7 +20,8 @@ use Rattle.cbf_reader.specs.declared.text.Class.the-variants.{Not}
 use Rattle.cbf_reader.specs.Classes.{inClass}
 use Rattle.cbf_reader.specs.Values.{joined}
 use Rattle.cbf_reader.specs.HeaderPlaces.{LineHere, LinesHere, Fresh, HeadersHere, HeaderParts}
-use Rattle.cbf_reader.proofs.Texts.{name-no-colon, getD-slice, slice-take}
+use Rattle.cbf_format.proofs.Slices.{slice-take}
+use Rattle.cbf_reader.proofs.Texts.{name-no-colon, getD-slice}
 use Rattle.cbf_reader.proofs.LineLaws.{line-good}
 use Rattle.cbf_reader.proofs.HeaderLaws.{lines-low, lines-end, lines-none, LineLeft, lines-some, here-formed}
 use Rattle.cbf_reader.proofs.Grouping.{Continued, alone, continued-more, texts, header-lies, header-name, Formed, fresh-text, colon-split}

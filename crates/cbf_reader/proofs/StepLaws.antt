@@ -42,7 +42,8 @@ use Rattle.cbf_reader.specs.HeaderPlaces.{headersReadAt}
 use Rattle.cbf_reader.specs.DataPlaces.{dataAt}
 use Rattle.cbf_reader.specs.Found.{descriptionOf}
 use Rattle.cbf_reader.proofs.step.Field.{the-type}
-use Rattle.cbf_reader.proofs.Texts.{by-run, slice-take, same-lengths, length-lowers}
+use Rattle.cbf_format.proofs.Slices.{slice-take}
+use Rattle.cbf_reader.proofs.Texts.{by-run, same-lengths, length-lowers}
 use Rattle.cbf_reader.proofs.LineLaws.{Passed, passed, says-text, says-refused}
 
 -- ---- fields

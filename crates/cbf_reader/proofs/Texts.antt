@@ -70,7 +70,7 @@ flag-between lo hi b flag came set over under =
     (⊎-elim (λ x. let s = over x in rw (le-ltb b hi (s .0), and-false) (s .1)) (λ x. let s = under x in rw (le-ltb lo b (s .0)) (s .1))) came
 
 -- a test that all numbers below n pass
-abbrev every : (ℕ → Bool) → ℕ → Bool
+abbrev pub every : (ℕ → Bool) → ℕ → Bool
 every test zero = true
 every test (suc n) = test n && every test n
 
@@ -83,21 +83,25 @@ every-at test (suc n) e b h = go (test n) (eqb b n) refl refl e (λ r l. every-a
     go true false p q r rest = let d = eqb-false b n q in rest r (omega arith)
     go false t p q r rest = absurd (true≢false (sym r))
 
--- the gaps between the letters of BASE64
-abbrev noLetter : ℕ → Bool
-noLetter b = ltb 122 b || (between 90 97 b || (between 57 65 b || (between 43 47 b || ltb b 43)))
-
-abbrev equal : Bool → Bool → Bool
+abbrev pub equal : Bool → Bool → Bool
 equal s t = cond s t (not t)
 
-pub letter-gaps : (b : ℕ) → b < 256 → not (noLetter b) ≡ isLetter (symbol b)
-unfolding symbol
-letter-gaps b h = go (not (noLetter b)) (isLetter (symbol b)) (every-at (λ (x : ℕ). equal (not (noLetter x)) (isLetter (symbol x))) 256 refl b h)
+-- two tests that agree on all numbers below n
+pub tests-agree : (f g : ℕ → Bool) (n : ℕ) → every (λ (x : ℕ). equal (f x) (g x)) n ≡ true → (b : ℕ) → b < n → f b ≡ g b
+tests-agree f g n e b h = go (f b) (g b) (every-at (λ (x : ℕ). equal (f x) (g x)) n e b h)
   where
     go : (s t : Bool) → equal s t ≡ true → s ≡ t
     go true t e = sym e
     go false true e = e
     go false false e = refl
+
+-- the gaps between the letters of BASE64
+abbrev noLetter : ℕ → Bool
+noLetter b = ltb 122 b || (between 90 97 b || (between 57 65 b || (between 43 47 b || ltb b 43)))
+
+pub letter-gaps : (b : ℕ) → b < 256 → not (noLetter b) ≡ isLetter (symbol b)
+unfolding symbol
+letter-gaps b h = tests-agree (λ (x : ℕ). not (noLetter x)) (λ (x : ℕ). isLetter (symbol x)) 256 refl b h
 
 -- ---- runs
 
@@ -155,9 +159,6 @@ module _ {test : ℕ → Bool} {file : List ℕ} where
 
 pub getD-slice : (f t : ℕ) (l : List ℕ) (i : ℕ) → f + i < t → getD (slice f t l) i 0 ≡ getD l (f + i) 0
 getD-slice f t l i h = getD-drop f (take t l) i 0 ∙ getD-take t l (f + i) 0 h
-
-pub slice-take : (file : List ℕ) (at k : ℕ) → at ≤ length file → slice at (at + k) file ≡ take k (drop at file)
-slice-take file at k h = ap (drop at) (take-add at k file) ∙ drop-at (take at file) (take k (drop at file)) at (length-take-le at file h)
 
 module _ (file : List ℕ) {from to r : ℕ} (run : Run blank file from to r) (fits : to ≤ length file) where
   -- a text is blanks, where its end is reached over them

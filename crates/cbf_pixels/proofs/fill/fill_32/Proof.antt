@@ -25,7 +25,7 @@ add-fill-four c = omega arith
 fill-four-requires : tie.Need-fill-four-requires Inv-loop μ-loop
 fill-four-requires c κs =
     let P = c .before .before .before .before .pre in
-    ready-then 4 (P .0) (c .before .before .loop .inv .2) (omega arith) refl (P .2)
+    ready-then 4 60 (P .0) (c .before .before .loop .inv .2) (omega arith) (omega arith) refl (P .2)
 
 add-j : tie.Need-add-j Inv-loop μ-loop
 add-j c = omega arith

@@ -64,6 +64,7 @@ unpacks : (c : tie.After-extended Inv-loop μ-loop)
     (toZ w64 (c .before .before .before .before .loop .z))
     (c .before .before .before .before .before .before .args .i + c .before .before .before .before .loop .j)
     1
+    0
 unpacks c = unpacks-then 1 (unpacks-held (c .before .before .before .before .before .before .pre .0)) (c .before .before .before .before .loop .inv .1) (omega arith)
 
 add-z : tie.Need-add-z Inv-loop μ-loop

@@ -25,7 +25,7 @@ add-fill-one c = omega arith
 fill-one-requires : tie.Need-fill-one-requires Inv-loop μ-loop
 fill-one-requires c κs =
     let P = c .before .before .before .before .pre in
-    ready-then 1 (P .0) (c .before .before .loop .inv .1) (omega arith) refl (P .2)
+    ready-then 1 15 (P .0) (c .before .before .loop .inv .1) (omega arith) (omega arith) refl (P .2)
 
 add-j : tie.Need-add-j Inv-loop μ-loop
 add-j c = omega arith

@@ -19,7 +19,7 @@ fill-32-requires : tie.Need-fill-32-requires
 fill-32-requires c κs =
     let a = c .before .before .before .args in
     let P = c .before .before .before .pre in
-    ready-then 32 (P .0) (filled-none (a .k) (a .out .now) (P .0 .before) (P .1)) (omega arith) (omega arith) (P .2)
+    ready-then 32 480 (P .0) (filled-none (a .k) (a .out .now) (P .0 .before) (P .1)) (omega arith) (omega arith) (omega arith) (P .2)
 
 same-length-2 : tie.Need-same-length-2
 same-length-2 c = search needs

@@ -10,7 +10,7 @@ fill-one-requires : tie.Need-fill-one-requires
 fill-one-requires c κs =
     let a = c .before .before .args in
     let P = c .before .before .pre in
-    ready-then 1 (P .0) (filled-none (a .k) (a .out .now) (P .0 .before) (P .1)) (omega arith) (omega arith) (P .2)
+    ready-then 1 15 (P .0) (filled-none (a .k) (a .out .now) (P .0 .before) (P .1)) (omega arith) (omega arith) (omega arith) (P .2)
 
 add-fill-one : tie.Need-add-fill-one
 add-fill-one c = search needs
@@ -18,7 +18,7 @@ add-fill-one c = search needs
 fill-one-requires-2 : tie.Need-fill-one-requires-2
 fill-one-requires-2 c κs =
     let P = c .before .before .before .before .before .pre in
-    ready-then 1 (P .0) (c .before .before .fill-one .ensures) (omega arith) refl (P .2)
+    ready-then 1 15 (P .0) (c .before .before .fill-one .ensures) (omega arith) (omega arith) refl (P .2)
 
 add-fill-one-2 : tie.Need-add-fill-one-2
 add-fill-one-2 c = search needs
@@ -27,7 +27,7 @@ fill-one-requires-3 : tie.Need-fill-one-requires-3
 fill-one-requires-3 c κs =
     let P = c .before .before .before .before .before .before .before .before .pre in
     let two = filled-then {n′ = 2} (c .before .before .before .before .before .fill-one .ensures) (c .before .before .fill-one2 .ensures) refl refl in
-    ready-then 1 (P .0) two (omega arith) refl (P .2)
+    ready-then 1 15 (P .0) two (omega arith) (omega arith) refl (P .2)
 
 add-fill-one-3 : tie.Need-add-fill-one-3
 add-fill-one-3 c = search needs
@@ -37,7 +37,7 @@ fill-one-requires-4 c κs =
     let P = c .before .before .before .before .before .before .before .before .before .before .before .pre in
     let two = filled-then {n′ = 2} (c .before .before .before .before .before .before .before .before .fill-one .ensures) (c .before .before .before .before .before .fill-one2 .ensures) refl refl in
     let three = filled-then {n′ = 3} two (c .before .before .fill-one3 .ensures) refl refl in
-    ready-then 1 (P .0) three (omega arith) refl (P .2)
+    ready-then 1 15 (P .0) three (omega arith) (omega arith) refl (P .2)
 
 same-length : tie.Need-same-length
 same-length c = search needs

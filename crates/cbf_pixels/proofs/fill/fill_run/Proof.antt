@@ -5,7 +5,7 @@ use native.Mathlib.Omega.{arith}
 use mir.Syntax.{w64}
 use mir.Val.{toZ}
 use Rattle.cbf_pixels.specs.Steps.{Filled}
-use Rattle.cbf_pixels.proofs.Filling.{filled-none, filled-then, filled-as, filled-length, ready-then, unpacks-held}
+use Rattle.cbf_pixels.proofs.Filling.{filled-none, filled-then, filled-as, filled-length, unpacks-then, unpacks-held}
 use Rattle.cbf_pixels.proofs.Integers.{held}
 use Rattle.cbf_pixels.proofs.PlainOctets.{plain-part}
 use Rattle.cbf_pixels.proofs.fill.fill_run.Statement.{statement}
@@ -34,8 +34,8 @@ fill-block-requires c κs =
     let a = c .before .before .before .before .args in
     let P = c .before .before .before .before .pre in
     let l = c .before .before .loop in
-    let r = ready-then 32 (unpacks-held (P .0)) (l .inv .2) (omega arith) refl (P .4) in
-    (r .0, omega arith, plain-part (a .octets .now) (a .i) (l .j) (a .n) 32 (P .2) (omega arith), r .2)
+    let u = unpacks-then 32 (unpacks-held (P .0)) (l .inv .2) (omega arith) in
+    (u, omega arith, plain-part (a .octets .now) (a .i) (l .j) (a .n) 32 (P .2) (omega arith), omega (arith, filled-length (l .inv .2)))
 
 add-j : tie.Need-add-j Inv-loop μ-loop
 add-j c = omega arith

@@ -1,7 +1,7 @@
 -- `pass_each` meets its contract. The loop has passed the first j pixels. Assumes nothing.
 use borrow.Author.Tests.{not-true, not-false}
 use native.Mathlib.Omega.{arith}
-use Prim.Native.Nat.{ℕ, _-_, _≤_}
+use Prim.Native.Nat.{ℕ, _+_, _*_, _-_, _≤_}
 use mathlib.Core.Path.{_≡_, subst}
 use lib.ListN.{length}
 use Rattle.cbf_pixels.specs.Steps.{Between, Passes, Passed}
@@ -11,7 +11,7 @@ use Rattle.cbf_pixels.proofs.validate.pass_each.Tie as tie
 
 abbrev Inv-loop : tie.InvT-loop
 Inv-loop octets i biased top n last₀ next₀ j₀ last next j =
-    (j ≤ n) × (next ≤ length octets) × Between top last × Passes top octets biased i j last next
+    (j ≤ n) × (next ≤ length octets) × Between top last × Passes top octets biased i j last next × (next ≤ i + 15 * j)
 
 abbrev μ-loop : tie.MeasureT-loop
 μ-loop octets i biased top n last₀ next₀ j₀ last next j = n - j
@@ -19,7 +19,7 @@ abbrev μ-loop : tie.MeasureT-loop
 loop-holds : tie.Need-loop-holds Inv-loop μ-loop
 loop-holds c =
     let a = c .before .args in
-    (omega arith, c .before .pre .2, c .before .pre .1, passes-none (a .top) (a .octets .now) (a .biased) (a .i))
+    (omega arith, c .before .pre .2, c .before .pre .1, passes-none (a .top) (a .octets .now) (a .biased) (a .i), omega arith)
 
 whole-requires : tie.Need-whole-requires Inv-loop μ-loop
 whole-requires c κs = c .before .loop .inv .1
@@ -28,8 +28,9 @@ returns : tie.Need-returns Inv-loop μ-loop
 returns c =
     let a = c .before .before .before .before .before .args in
     let l = c .before .before .before .loop in
-    passed-stop (a .top) (a .octets .now) (a .biased) (a .i) (a .n) (l .j) (l .last) (l .next) (l .inv .3)
+    passed-stop (a .top) (a .octets .now) (a .biased) (a .i) (a .n) (l .j) (l .last) (l .next) (l .inv .3) (l .inv .4)
     (step-run-out (a .top) (a .octets .now) (l .last) (l .next) (c .before .whole .ensures .1 (not-true (c .before .whole .result) (c .if1 .taken)))) (c .before .before .loop-test .taken)
+    (c .before .before .before .before .before .pre .3)
 
 read-difference-requires : tie.Need-read-difference-requires Inv-loop μ-loop
 read-difference-requires c κs = c .before .whole .ensures .0 (not-false (c .before .whole .result) (c .if1 .left))
@@ -48,8 +49,9 @@ outside c r =
     let a = c .before .before .before .before .before .before .before .before .args in
     let l = c .before .before .before .before .before .before .loop in
     let d = c .before .before .read-difference in
-    passed-stop (a .top) (a .octets .now) (a .biased) (a .i) (a .n) (l .j) (l .last) (l .next) (l .inv .3)
-    (step-out (d .ensures) (l .inv .2) (took-sum (l .last) (c .sum .result) (d .ensures) (c .sum .ensures)) r) (c .before .before .before .before .before .loop-test .taken)
+    passed-stop (a .top) (a .octets .now) (a .biased) (a .i) (a .n) (l .j) (l .last) (l .next) (l .inv .3) (l .inv .4)
+    (λ tail _. step-out (d .ensures) (l .inv .2) (took-sum (l .last) (c .sum .result) (d .ensures) (c .sum .ensures)) r tail) (c .before .before .before .before .before .loop-test .taken)
+    (c .before .before .before .before .before .before .before .before .pre .3)
 
 returns-2 : tie.Need-returns-2 Inv-loop μ-loop
 returns-2 c = outside (c .before) (λ r. omega (arith, r .0, c .if2 .taken))
@@ -76,6 +78,7 @@ loop-again c =
       b,
       passes-passes (a .top) (a .octets .now) (a .biased) (a .i) (l .j) 1 (l .last) (l .next) (p .result) (d .result .next) (l .inv .3)
           (step-in (d .ensures) (l .inv .2) (took-sum (l .last) (p .result) (d .ensures) (p .ensures)) b),
+      omega (arith, d .ensures .reach, l .inv .4),
     )
 
 returns-4 : tie.Need-returns-4 Inv-loop μ-loop

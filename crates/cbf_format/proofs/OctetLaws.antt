@@ -1,0 +1,275 @@
+-- A section of an accepted file and the bytes of the file that its octets come from: where they stand, how many they are, and what the headers say of them. Assumes nothing.
+use mathlib.Core.Path.{_≡_, refl, sym, ap, _∙_, subst}
+use mathlib.Core.Option.{Option, none, some, Option·none-ne-some, Option·some-ne-none}
+use mathlib.Core.Bool.{Bool, true, false, _&&_, cond}
+use mathlib.Core.List.{List, [], _∷_, _++_}
+use Prim.Native.Nat.{ℕ, zero, suc, _+_, _*_, _≤_}
+use native.Mathlib.Omega.{arith}
+use lib.Dec.{leb, eqb}
+use borrow.Author.Tests.{leb-true, eqb-true}
+use lib.ListN.{length, take, drop, length-append, length-drop}
+use lib.Seq.{slice, take-add, drop-at, drop-drop, length-take-le}
+use Rattle.cbf_walk.specs.Parsers.{ok, ret, blame, bind}
+use Rattle.cbf_walk.specs.Reading.{good, flat, Good}
+use Rattle.cbf_walk.proofs.ParserLaws.{Unbound, ok-val, unbind, unscreen, unblame}
+use Rattle.cbf_pixels.specs.declared.Compression.the-variants.{Uncompressed}
+use Rattle.cbf_pixels.specs.Uncompressed.{octetsPer}
+use Rattle.cbf_format.specs.declared.Encoding.{Encoding}
+use Rattle.cbf_format.specs.declared.Encoding.the-variants.{Binary, Base64}
+use Rattle.cbf_format.specs.Lines.{octets, word, semicolonLine}
+use Rattle.cbf_format.specs.Headers.{Header, HeaderLines, headerLines, group}
+use Rattle.cbf_format.specs.Values.{number, between, oneOf, knownNames, valueOf}
+use Rattle.cbf_format.specs.Descriptions.{Description, Judged, refused-at, found, look, put, judgeHeader, onward as judgedOn, judge, sizeAgrees, dimensionsAgree, description, agrees, Verdict, refuses, describes, described, verdictOf, verdict, headers}
+use Rattle.cbf_format.specs.Base64.{Letters, letters, decode}
+use Rattle.cbf_format.specs.Sections.{closing, marker, fileLimit, Data, closed, closedAfter, binaryData, goodText, decoded, base64Data, dataFor, Section}
+use Rattle.cbf_format.specs.Files.{State, start, due, step, Tree, read}
+use Rattle.cbf_format.specs.Listing.{Placed, addPlaced, sections, numbered, position}
+use Rattle.cbf_format.proofs.Slices.{slice-take}
+use Rattle.cbf_format.proofs.LineTame.{unoctets, and-true}
+use Rattle.cbf_format.proofs.SectionTame.{unconclude, binaryOf, text, base64Of, afterText, unclose}
+use Rattle.cbf_format.proofs.SectionLaws.{word-count, data-says}
+use Rattle.cbf_format.proofs.FileLaws.{Took, took, accepted}
+
+-- a section's data: what stands behind its headers, at a place of the file
+pub record DataAt (limit : ℕ) (file : List ℕ) (p : Placed) : Type 0 where
+  pub at : ℕ
+  pub found : Data
+  pub took : ℕ
+  pub read-data : dataFor limit (p .section .description .encoding) (p .section .description .size) (drop at file) ≡ ok found took
+  pub octets : p .section .octets ≡ found .octets
+  pub first : position p ≡ at + found .lead
+  pub end : p .boundary + p .section .width ≡ at + found .width
+  pub inside : at + took ≤ length file
+  pub described : (hs : HeaderLines) × (verdict hs ≡ describes (p .section .description))
+
+-- ---- each section of a tree
+
+module _ (limit : ℕ) (file : List ℕ) where
+  -- the section that a step took, which is at a place of the file
+  taken : (at : ℕ) (st t : State) (s : List ℕ) (i : Section) (n : ℕ) → drop at file ≡ s → at + n ≤ length file → Took limit st t s i n
+      → DataAt limit file (record { boundary = at; section = i })
+  unfolding headers
+  taken at st t s i n e h k =
+      let c = k .parts in
+      let f : k .top + c .head + c .found .lead ≡ i .first = ap (λ (z : Section). z .first) (c .is) in
+      let w : k .top + c .head + c .found .width ≡ i .width = ap (λ (z : Section). z .width) (c .is) in
+      let here : drop (at + k .top + c .head) file ≡ drop (c .head) (drop (k .top) s) =
+      sym (drop-drop (c .head) (at + k .top) file) ∙ ap (drop (c .head)) (sym (drop-drop (k .top) at file) ∙ ap (drop (k .top)) e) in
+      let u = unconclude (headerLines limit fileLimit true 0 (drop (k .top) s)) (i .description) (c .head) (c .heads) in
+      record {
+        at = at + k .top + c .head;
+        found = c .found;
+        took = c .rest;
+        read-data = ap (dataFor limit (i .description .encoding) (i .description .size)) here ∙ c .did;
+        octets = sym (ap (λ (z : Section). z .octets) (c .is));
+        first = omega (arith, f);
+        end = omega (arith, w);
+        inside = omega (arith, k .sum, c .sum);
+        described = (u .0, u .2);
+      }
+
+  data-from : (at : ℕ) (its : Tree) (st : State) → at ≤ length file → drop at file ≡ flat its → Good (step limit) due st its
+      → (n : ℕ) (p : Placed) → numbered n (sections at its) ≡ some p → DataAt limit file p
+  unfolding Good sections flat numbered
+  data-from at [] st h e g zero p q = absurd (Option·none-ne-some p q)
+  data-from at [] st h e g (suc n) p q = absurd (Option·none-ne-some p q)
+  data-from at (it ∷ its) st h e g n p q = go (it .info) (it .next) (g .0) n q (λ m r. data-from next its (it .next) fits rest (g .2) m p r)
+    where
+      next : ℕ
+      next = at + length (it .bytes)
+
+      fits : next ≤ length file
+      fits = omega (arith, length-append (it .bytes) (flat its), length-drop at file, ap length e)
+
+      rest : drop next file ≡ flat its
+      rest = sym (drop-drop (length (it .bytes)) at file) ∙ ap (drop (length (it .bytes))) e ∙ drop-at (it .bytes) (flat its) (length (it .bytes)) refl
+
+      go : (o : Option Section) (t : State) → step limit st (it .bytes ++ flat its) ≡ ok (o, t) (length (it .bytes)) → (m : ℕ)
+          → numbered m (addPlaced at o (sections next its)) ≡ some p → ((m : ℕ) → numbered m (sections next its) ≡ some p → DataAt limit file p) → DataAt limit file p
+      go none t d m r ih = ih m r
+      go (some i) t d zero r ih = absurd (Option·none-ne-some p r)
+      go (some i) t d (suc zero) r ih =
+          let s : record { boundary = at; section = i } ≡ p = cc in
+          subst (DataAt limit file) s
+          (taken at st t (it .bytes ++ flat its) i (length (it .bytes)) e fits (took limit st t (it .bytes ++ flat its) i (length (it .bytes)) d))
+      go (some i) t d (suc (suc m)) r ih = ih (suc m) r
+
+pub data-at : (limit n : ℕ) (file : List ℕ) (its : Tree) (p : Placed) → read limit file ≡ good its → numbered n (sections 0 its) ≡ some p → DataAt limit file p
+data-at limit n file its p e q = let a = accepted limit file its e in data-from limit file 0 its start (omega arith) (sym (a .whole)) (a .is-good) n p q
+
+-- ---- the data
+
+-- BINARY: the octets are the bytes after the first 4
+record BinaryAt (size : ℕ) (s : List ℕ) (d : Data) : Type 0 where
+  octets : d .octets ≡ take size (drop 4 s)
+  lead : d .lead ≡ 4
+  fits : size ≤ length (drop 4 s)
+
+binary-at : (limit size : ℕ) (s : List ℕ) (d : Data) (n : ℕ) → binaryData limit size s ≡ ok d n → BinaryAt size s d
+unfolding binaryData
+binary-at limit size s d n e = go (unbind (λ s. blame 8 (word marker s)) (λ m. bind (octets size) (closedAfter limit size)) s d n e)
+  where
+    U₁ : Type 0
+    U₁ = Unbound (λ s. blame 8 (word marker s)) (λ m. bind (octets size) (closedAfter limit size)) s d n
+
+    U₂ : U₁ → Type 0
+    U₂ u = Unbound (octets size) (closedAfter limit size) (drop (u .first) s) d (u .second)
+
+    go₃ : (u : U₁) (v : U₂ u) → Unbound (λ s. blame 9 (closed limit s)) (λ c. ret (binaryOf size (v .val) c)) (drop (v .first) (drop (u .first) s)) d (v .second)
+        → BinaryAt size s d
+    go₃ u v w =
+        let a : u .first ≡ 4 = word-count marker s (u .val) (u .first) (unblame 8 (word marker s) (u .val) (u .first) (u .did)) in
+        let b = unoctets size (drop (u .first) s) (v .val) (v .first) (v .did) in
+        let q : binaryOf size (v .val) (w .val) ≡ d = ok-val (w .then-did) in
+        record {
+          octets = sym (ap (λ (z : Data). z .octets) q) ∙ b .1 ∙ ap (λ (k : ℕ). take size (drop k s)) a;
+          lead = sym (ap (λ (z : Data). z .lead) q);
+          fits = subst (λ (k : ℕ). size ≤ length (drop k s)) a (b .0);
+        }
+
+    go₂ : (u : U₁) → U₂ u → BinaryAt size s d
+    go₂ u v = go₃ u v (unbind (λ s. blame 9 (closed limit s)) (λ c. ret (binaryOf size (v .val) c)) (drop (v .first) (drop (u .first) s)) d (v .second) (v .then-did))
+
+    go : U₁ → BinaryAt size s d
+    go u = go₂ u (unbind (octets size) (closedAfter limit size) (drop (u .first) s) d (u .second) (u .then-did))
+
+-- BASE64: as many octets as declared
+good-text : (size : ℕ) (l : Letters) → goodText size l ≡ none → length (decoded (decode (l .symbols))) ≡ size
+good-text size l e = go (decode (l .symbols)) refl
+  where
+    go : (o : Option (List ℕ)) → decode (l .symbols) ≡ o → length (decoded o) ≡ size
+    go none q = absurd (Option·some-ne-none (10, l .closing) (rw q at e))
+    go (some os) q = by (eqb (length os) size) refl
+      where
+        by : (b : Bool) → eqb (length os) size ≡ b → length os ≡ size
+        by true h = eqb-true (length os) size h
+        by false h = absurd (Option·some-ne-none (10, l .closing) (rw (q, h) at e))
+
+base64-count : (limit size : ℕ) (s : List ℕ) (d : Data) (n : ℕ) → base64Data limit size s ≡ ok d n → length (d .octets) ≡ size
+unfolding base64Data
+base64-count limit size s d n e = go (unbind (text limit size) (afterText limit) s d n (unclose limit (text limit size s) s d n e))
+  where
+    go : Unbound (text limit size) (afterText limit) s d n → length (d .octets) ≡ size
+    go u =
+        let v = unbind (semicolonLine limit) (λ e. ret (base64Of (u .val))) (drop (u .first) s) d (u .second) (u .then-did) in
+        ap (λ (z : Data). length (z .octets)) (sym (ok-val (v .then-did)))
+        ∙ good-text size (u .val) (unscreen (goodText size) (letters limit closing fileLimit 0 s) (u .val) (u .first) (u .did) .1)
+
+data-count : (limit : ℕ) (e : Encoding) (size : ℕ) (s : List ℕ) (d : Data) (n : ℕ) → dataFor limit e size s ≡ ok d n → length (d .octets) ≡ size
+data-count limit Binary size s d n e = let b = binary-at limit size s d n e in ap length (b .octets) ∙ length-take-le size (drop 4 s) (b .fits)
+data-count limit Base64 size s d n e = base64-count limit size s d n e
+
+-- ---- what the headers say
+
+-- each number that was found is the value of its header
+abbrev Valued : List (ℕ × ℕ) → Type 0
+Valued fs = (k n : ℕ) → look k fs ≡ some n → (v : List ℕ) × (valueOf k v ≡ some n)
+
+abbrev JudgedValued : Judged → Type 0
+JudgedValued (refused-at p) = Unit {0}
+JudgedValued (found fs) = Valued fs
+
+judge-valued : (hs : List Header) (fs : List (ℕ × ℕ)) → Valued fs → JudgedValued (judge hs fs)
+unfolding judge
+judge-valued [] fs w = w
+judge-valued (h ∷ hs) fs w = on (judgeHeader h (oneOf 0 knownNames (h .name)) fs) (header (oneOf 0 knownNames (h .name))) (λ r w. judge-valued hs r w)
+  where
+    value : (k : ℕ) (old v : Option ℕ) → valueOf k (h .value) ≡ v → JudgedValued (put (h .at) k old v fs)
+    value k (some n) v q = tt
+    value k none none q = tt
+    value k none (some n) q = λ j m e. by j m (eqb j k) refl e
+      where
+        by : (j m : ℕ) (b : Bool) → eqb j k ≡ b → cond b (some n) (look j fs) ≡ some m → (v : List ℕ) × (valueOf j v ≡ some m)
+        by j m true p e = (h .value, ap (λ (z : ℕ). valueOf z (h .value)) (eqb-true j k p) ∙ q ∙ e)
+        by j m false p e = w j m e
+
+    header : (o : Option ℕ) → JudgedValued (judgeHeader h o fs)
+    header none = w
+    header (some k) = value k (look k fs) (valueOf k (h .value)) refl
+
+    on : (j : Judged) → JudgedValued j → ((r : List (ℕ × ℕ)) → Valued r → JudgedValued (judge hs r)) → JudgedValued (judgedOn (λ r. judge hs r) j)
+    on (refused-at p) v ih = tt
+    on (found r) v ih = ih r v
+
+between-most : (least most : ℕ) (o : Option ℕ) (n : ℕ) → between least most o ≡ some n → n ≤ most
+between-most least most none n e = absurd (Option·none-ne-some n e)
+between-most least most (some m) n e = go (leb least m) (leb m most) refl e
+  where
+    go : (a b : Bool) → leb m most ≡ b → cond (a && b) (some m) none ≡ some n → n ≤ most
+    go true true q h = let p : m ≡ n = cc in omega (arith, leb-true m most q)
+    go true false q h = absurd (Option·none-ne-some n h)
+    go false b q h = absurd (Option·none-ne-some n h)
+
+-- a description that the headers gave: its elements are few, and its counts agree
+abbrev Sound : Verdict → Type 0
+Sound (refuses k p) = Unit {0}
+Sound (describes d) = (d .elements ≤ 67_108_864) × (agrees d ≡ true)
+
+verdict-sound : (hs : HeaderLines) → Sound (verdict hs)
+unfolding verdict
+verdict-sound hs = go (judge (group (hs .lines) .headers) []) (judge-valued (group (hs .lines) .headers) [] (λ k n e. absurd (Option·none-ne-some n e)))
+  where
+    agreed : (d : Description) (b : Bool) → agrees d ≡ b → d .elements ≤ 67_108_864 → Sound (cond b (describes d) (refuses 7 (hs .empty)))
+    agreed d true q h = (h, q)
+    agreed d false q h = tt
+
+    all : (e n k : Option ℕ) (fs : List (ℕ × ℕ)) → look 2 fs ≡ k → Valued fs → Sound (described (hs .empty) e n k fs)
+    all (some e) (some n) (some k) fs q w =
+        let v = w 2 k q in
+        let d = description e n k fs in
+        agreed d (agrees d) refl (between-most 0 67_108_864 (number (v .0)) k (v .1))
+    all none n k fs q w = tt
+    all (some e) none k fs q w = tt
+    all (some e) (some n) none fs q w = tt
+
+    go : (j : Judged) → JudgedValued j → Sound (verdictOf (hs .empty) j)
+    go (refused-at p) w = tt
+    go (found fs) w = all (look 0 fs) (look 1 fs) (look 2 fs) fs refl w
+
+-- ---- a section and its octets
+
+module _ {limit : ℕ} {file : List ℕ} {p : Placed} (d : DataAt limit file p) where
+  -- the first octet is in the file
+  pub position-in : position p ≤ length file
+  position-in =
+      let s = data-says limit (p .section .description .encoding) (p .section .description .size) (drop (d .at) file) (d .found) (d .took) (d .read-data) in
+      omega (arith, d .first, d .inside, s .lead, s .closes .sum)
+
+  -- BINARY: the octets are a part of the file
+  pub binary-octets : p .section .description .encoding ≡ Binary
+      → (p .section .octets ≡ slice (position p) (position p + p .section .description .size) file) × (position p + p .section .description .size ≤ length file)
+  binary-octets e = go (binary-at limit size (drop (d .at) file) (d .found) (d .took) (rw e at (d .read-data)))
+    where
+      size : ℕ
+      size = p .section .description .size
+
+      go : BinaryAt size (drop (d .at) file) (d .found) → (p .section .octets ≡ slice (position p) (position p + size) file) × (position p + size ≤ length file)
+      go b =
+          let at : d .at + 4 ≡ position p = omega (arith, d .first, b .lead) in
+          let here : drop 4 (drop (d .at) file) ≡ drop (position p) file = drop-drop 4 (d .at) file ∙ ap (λ (k : ℕ). drop k file) at in (
+            d .octets ∙ b .octets ∙ ap (take size) here ∙ sym (slice-take file (position p) size position-in),
+            omega (arith, b .fits, ap length here, length-drop (position p) file, position-in),
+          )
+
+  -- "octet count as declared", for both encodings
+  pub octet-count : length (p .section .octets) ≡ p .section .description .size
+  octet-count =
+      ap length (d .octets)
+      ∙ data-count limit (p .section .description .encoding) (p .section .description .size) (drop (d .at) file) (d .found) (d .took) (d .read-data)
+
+  sound-description : Sound (describes (p .section .description))
+  sound-description = subst Sound (d .described .1) (verdict-sound (d .described .0))
+
+  -- "X-Binary-Number-of-Elements .. 0 to 67,108,864"
+  pub few-elements : p .section .description .elements ≤ 67_108_864
+  few-elements = sound-description .0
+
+  -- "uncompressed size = elements × octets per element"
+  pub whole-elements : p .section .description .compression ≡ Uncompressed → p .section .description .size ≡ p .section .description .elements * octetsPer (p .section .description .type)
+  whole-elements e = go (p .section .description) e (sound-description .1)
+    where
+      go : (x : Description) → x .compression ≡ Uncompressed → agrees x ≡ true → x .size ≡ x .elements * octetsPer (x .type)
+      go x e a =
+          let s : sizeAgrees (x .compression) (x .type) (x .size) (x .elements) ≡ true =
+          and-true (sizeAgrees (x .compression) (x .type) (x .size) (x .elements)) (dimensionsAgree (x .fastest) (x .second) (x .third) (x .elements)) a .0 in
+          eqb-true (x .size) (x .elements * octetsPer (x .type)) (rw e at s)

@@ -1,0 +1,276 @@
+-- A file's section with a number: from what the reader says of it to what the calls answer, and where its octets are. Assumes nothing.
+use mathlib.Core.Path.{_≡_, refl, sym, ap, _∙_, subst}
+use mathlib.Core.Option.{Option, none, some, Option·none-ne-some}
+use mathlib.Core.Bool.{Bool, true, false}
+use mathlib.Core.List.{List, []}
+use Prim.Native.Nat.{ℕ, _+_, _-_, _*_, _≤_}
+use native.Mathlib.Omega.{arith}
+use borrow.Author.Tests.{le-leb, ne-eqb}
+use lib.Dec.{leb, eqb}
+use lib.IntN.{ℤ}
+use lib.ListN.{length, take, drop}
+use lib.Seq.{slice}
+use Rattle.cbf_walk.specs.Reading.{Item, Reading, refused, good}
+use Rattle.cbf_pixels.specs.Octets.{pick}
+use Rattle.cbf_pixels.specs.Uncompressed.{octetsPer}
+use Rattle.cbf_pixels.specs.Answers.{Outcome, gives, refuses, written, isSome, pixelsOf, unpackPixels, unpackOutcome, unpackOutput}
+use Rattle.cbf_pixels.specs.declared.Compression.the-variants.{Uncompressed}
+use Rattle.cbf_pixels.specs.declared.Refusal.{Refusal}
+use Rattle.cbf_format.specs.declared.Encoding.{Encoding}
+use Rattle.cbf_format.specs.declared.Encoding.the-variants.{Binary, Base64}
+use Rattle.cbf_format.specs.Sections as S
+use Rattle.cbf_format.specs.Files as F
+use Rattle.cbf_format.specs.Listing.{Placed, sections, numbered, position}
+use Rattle.cbf_format.proofs.OctetLaws.{DataAt, data-at, binary-octets, octet-count, few-elements, whole-elements}
+use Rattle.cbf_reader.specs.Surveys.{countOf, NumberedIs, NumberedSays}
+use Rattle.cbf_reader.specs.StepPlaces.{sectionAt}
+use Rattle.cbf_reader.specs.WalkPlaces.{SectionOf}
+use Rattle.cbf_reader.specs.declared.step.Section.{Section}
+use Rattle.cbf_reader.specs.declared.survey.Count.{Count}
+use Rattle.cbf_reader.specs.declared.survey.Count.the-variants as C
+use Rattle.cbf_reader.specs.declared.survey.Numbered.{Numbered}
+use Rattle.cbf_reader.specs.declared.survey.Numbered.the-variants as N
+use Rattle.cbf_text.specs.Texts.{GoodText, textOctets, TextOf}
+use Rattle.cbf_sections.specs.SectionCalls.{readOutcome, found, asked, fields, seen, fieldsOf, sectionFields, askedOf, octetsFor, octetsOutcome, partOf, partIn, octetsPart, placeFor, placeOf, octetsPlace, placedAt, frameOf, frameFor, frameOutcome, framePixels}
+use Rattle.cbf_sections.specs.FramePlaces.{FrameOf}
+use Rattle.cbf_sections.specs.declared.asked.OctetsPlace.{OctetsPlace}
+use Rattle.cbf_sections.specs.declared.asked.OctetsPlace.the-variants as O
+use Rattle.cbf_format.proofs.Slices.{slice-part}
+use Rattle.cbf_text.proofs.SectionTexts.{text-of}
+
+-- ---- how many sections
+
+abbrev pub countSays : Count → Outcome
+countSays (C.Refused r) = refuses (r .number) (r .place)
+countSays (C.Sections n) = gives n
+
+pub count-outcome : (r : Reading (Item F.State S.Section)) → countSays (countOf r) ≡ readOutcome r
+unfolding readOutcome
+count-outcome (refused k p) = refl
+count-outcome (good its) = refl
+
+-- ---- the section with a number
+
+pub section-fields : (file : List ℕ) (n : ℕ) (r : Reading (Item F.State S.Section)) (s : Numbered) → NumberedSays file n r s → seen file s ≡ sectionFields r n
+unfolding sectionFields
+section-fields file n (refused k p) s e = ap (seen file) e
+section-fields file n (good its) s e = go (numbered n (sections 0 its)) e
+  where
+    go : (o : Option Placed) → NumberedIs file o s → seen file s ≡ fieldsOf o
+    go none e = ap (seen file) e
+    go (some p) (t, e, d) =
+        let b = slice (t .block .from) (t .block .to) file in
+        ap (seen file) e ∙ ap (λ (z : Section). fields (z .description) (z .from) (z .to) (z .first) b) (d .fields) ∙ rw (d .block)
+
+-- ---- its octets
+
+-- where the octets of the code's section are
+abbrev pub placeIn : Numbered → OctetsPlace
+placeIn (N.Refused r) = O.Refused r
+placeIn (N.As s) = placeFor (s .description .encoding) (s .first) (s .description .size)
+
+pub place-in : (file : List ℕ) (n : ℕ) (r : Reading (Item F.State S.Section)) (s : Numbered) → NumberedSays file n r s → placeIn s ≡ octetsPlace r n
+unfolding octetsPlace
+place-in file n (refused k p) s e = ap placeIn e
+place-in file n (good its) s e = go (numbered n (sections 0 its)) e
+  where
+    go : (o : Option Placed) → NumberedIs file o s → placeIn s ≡ placeOf o
+    go none e = ap placeIn e
+    go (some p) (t, e, d) = ap placeIn e ∙ ap (λ (z : Section). placeFor (z .description .encoding) (z .first) (z .description .size)) (d .fields)
+
+abbrev pub placeSays : OctetsPlace → Outcome
+placeSays (O.Refused r) = refuses (r .number) (r .place)
+placeSays (O.At first size) = gives size
+
+-- the part of the file at the place
+pub record PartAt (file octets : List ℕ) (from to : ℕ) : Type 0 where
+  pub low : from ≤ to
+  pub high : to ≤ length file
+  pub is : slice from to file ≡ octets
+
+-- as the code takes it from the file
+pub part-taken : {file octets : List ℕ} {from to : ℕ} → PartAt file octets from to → take (to - from) (drop from file) ≡ octets
+part-taken {file} {from} {to} a = sym (slice-part file from to (a .low) (a .high)) ∙ a .is
+
+abbrev pub PartFor : List ℕ → List ℕ → OctetsPlace → Type 0
+PartFor file octets (O.Refused r) = PartAt file octets 0 0
+PartFor file octets (O.At first size) = PartAt file octets first (first + size)
+
+-- no part
+no-part : (file : List ℕ) → PartAt file [] 0 0
+no-part file = record { low = omega arith; high = omega arith; is = refl }
+
+module _ (limit n : ℕ) (file : List ℕ) where
+  octets-for : (p : Placed) (e : Encoding) → p .section .description .encoding ≡ e → DataAt limit file p
+      → let x = placeFor e (position p) (p .section .description .size) in (placeSays x ≡ octetsFor e (p .section .octets)) × PartFor file (partOf e (p .section .octets)) x
+  octets-for p Binary q d = let b = binary-octets d q in (ap gives (sym (octet-count d)), record { low = omega arith; high = b .1; is = sym (b .0) })
+  octets-for p Base64 q d = (refl, no-part file)
+
+  -- what is answered of a place in the file, and which octets are there
+  pub place-says : (placeSays (octetsPlace (F.read limit file) n) ≡ octetsOutcome (F.read limit file) n)
+      × PartFor file (octetsPart (F.read limit file) n) (octetsPlace (F.read limit file) n)
+  unfolding octetsPlace octetsOutcome octetsPart
+  place-says = go (F.read limit file) refl
+    where
+      go : (r : Reading (Item F.State S.Section)) → F.read limit file ≡ r → (placeSays (octetsPlace r n) ≡ octetsOutcome r n) × PartFor file (octetsPart r n) (octetsPlace r n)
+      go (refused k p) e = (refl, no-part file)
+      go (good its) e = by (numbered n (sections 0 its)) refl
+        where
+          by : (o : Option Placed) → numbered n (sections 0 its) ≡ o
+              → (placeSays (placeOf o) ≡ askedOf (good its) o (λ p. octetsFor (p .section .description .encoding) (p .section .octets))) × PartFor file (partIn o) (placeOf o)
+          by none h = (refl, no-part file)
+          by (some p) h = octets-for p (p .section .description .encoding) refl (data-at limit n file its p e h)
+
+-- ---- its frame
+
+frame : {limit : ℕ} {file : List ℕ} {p : Placed} {s : Section} → DataAt limit file p → SectionOf file p s → FrameOf file p s
+frame {p} d h =
+    record {
+      is = h;
+      binary = λ e. let b = binary-octets d e in record { octets = b .0; inside = b .1 };
+      base64 = λ e. (p .boundary + p .section .width - 31, text-of d e);
+      few = few-elements d;
+      whole = whole-elements d;
+    }
+
+-- the code's section of an accepted file has the octets of the file's
+pub frame-of : (limit n : ℕ) (file : List ℕ) (s : Section) → NumberedSays file n (F.read limit file) (N.As s)
+    → (p : Placed) × (found (F.read limit file) n ≡ some p) × FrameOf file p s
+frame-of limit n file s h = go (F.read limit file) refl h
+  where
+    go : (r : Reading (Item F.State S.Section)) → F.read limit file ≡ r → NumberedSays file n r (N.As s) → (p : Placed) × (found r n ≡ some p) × FrameOf file p s
+    go (refused k q) e h = let z : _≡_ {A = ℕ} 0 1 = cc in absurd (omega arith)
+    go (good its) e h = by (numbered n (sections 0 its)) refl h
+      where
+        by : (o : Option Placed) → numbered n (sections 0 its) ≡ o → NumberedIs file o (N.As s) → (p : Placed) × (o ≡ some p) × FrameOf file p s
+        by none q h = let z : _≡_ {A = ℕ} 0 1 = cc in absurd (omega arith)
+        by (some p) q (t, same, d) =
+            let u : t ≡ s = cc in
+            (p, refl, frame (data-at limit n file its p e q) (subst (SectionOf file p) u d))
+
+-- the text of a section, as the code takes it from the file
+pub record TextFor (file octets : List ℕ) (s : Section) : Type 0 where
+  pub long : 31 ≤ s .to
+  pub fits : (s .first ≤ s .to - 31)
+      × (s .to - 31 ≤ length file)
+      × GoodText file (s .first) (s .to - 31)
+      × (s .description .size ≤ length (textOctets file (s .first) (s .to - 31)))
+      × (s .description .elements ≤ 67108864)
+      × (s .description .compression ≡ Uncompressed → s .description .size ≡ s .description .elements * octetsPer (s .description .kind))
+  pub is : take (s .description .size) (textOctets file (s .first) (s .to - 31)) ≡ octets
+
+module _ {file : List ℕ} {p : Placed} {s : Section} (f : FrameOf file p s) where
+  pub frame-binary : s .description .encoding ≡ Binary → PartAt file (p .section .octets) (s .first) (s .first + s .description .size)
+  frame-binary =
+      subst (λ (z : Section). z .description .encoding ≡ Binary → PartAt file (p .section .octets) (z .first) (z .first + z .description .size)) (sym (f .is .fields))
+      (λ e. let b = f .binary e in record { low = omega arith; high = b .inside; is = sym (b .octets) })
+
+  pub frame-text : s .description .encoding ≡ Base64 → TextFor file (p .section .octets) s
+  frame-text =
+      subst (λ (z : Section). z .description .encoding ≡ Base64 → TextFor file (p .section .octets) z) (sym (f .is .fields)) (λ e. go (f .base64 e .0) (f .base64 e .1))
+    where
+      go : (to : ℕ) → TextOf file p to → TextFor file (p .section .octets) (sectionAt (p .boundary) (s .block) (p .section))
+      go to i =
+          let q : to ≡ p .boundary + p .section .width - 31 = omega (arith, i .end) in
+          let j = subst (TextOf file p) q i in
+          record { long = omega (arith, i .end); fits = (j .begun, j .inside, j .good-text, j .enough, f .few, f .whole); is = sym (j .octets) }
+
+-- ---- what unpacking it answers
+
+-- unpacking of octets as the code's section says
+abbrev answerFor : Section → List ℕ → ℕ → Outcome
+answerFor s os room = unpackOutcome (s .description .compression) (s .description .kind) (s .description .elements) os room
+
+abbrev outputFor : Section → List ℕ → List ℤ → List ℤ
+outputFor s os old = unpackOutput (s .description .compression) (s .description .kind) (s .description .elements) os old
+
+abbrev pixelsFor : Section → List ℕ → List ℤ
+pixelsFor s os = pixelsOf (unpackPixels (s .description .compression) (s .description .kind) (s .description .elements) os)
+
+-- what was said of octets that are the section's
+pub said-of : {file : List ℕ} {s : Section} {os : List ℕ} {o : Outcome} (old : List ℤ) {new : List ℤ} → ((p : Placed) → FrameOf file p s → os ≡ p .section .octets)
+    → (o ≡ answerFor s os (length old))
+    × (new ≡ outputFor s os old)
+    → ((p : Placed) → FrameOf file p s → o ≡ answerFor s (p .section .octets) (length old))
+    × ((p : Placed) → FrameOf file p s → new ≡ outputFor s (p .section .octets) old)
+said-of old e u = (λ p f. rw (← (e p f)) (u .0), λ p f. rw (← (e p f)) (u .1))
+
+-- what is asked of the section
+asked-found : (r : Reading (Item F.State S.Section)) (n : ℕ) (p : Placed) (f : Placed → Outcome) → found r n ≡ some p → asked r n f ≡ f p
+asked-found (refused k q) n p f e = absurd (Option·none-ne-some p e)
+asked-found (good its) n p f e = rw e
+
+asked-refused : (file : List ℕ) (n : ℕ) (r : Reading (Item F.State S.Section)) (t : Refusal) (f : Placed → Outcome) → NumberedSays file n r (N.Refused t)
+    → refuses (t .number) (t .place) ≡ asked r n f
+asked-refused file n (refused k p) t f e = cc
+asked-refused file n (good its) t f e = go (numbered n (sections 0 its)) e
+  where
+    go : (o : Option Placed) → NumberedIs file o (N.Refused t) → refuses (t .number) (t .place) ≡ askedOf (good its) o f
+    go none e = cc
+    go (some p) (s, e, d) = let z : _≡_ {A = ℕ} 0 1 = cc in absurd (omega arith)
+
+-- 13 is placed, and nothing else is
+pub placed-13 : (first : ℕ) (t : Refusal) → t .number ≡ 13 → refuses 13 first ≡ placedAt first (refuses (t .number) (t .place))
+unfolding pick
+placed-13 first t e = rw e
+
+pub placed-other : (first : ℕ) (t : Refusal) → (t .number ≡ 13 → ⊥) → refuses (t .number) (t .place) ≡ placedAt first (refuses (t .number) (t .place))
+unfolding pick
+placed-other first t e = rw (ne-eqb (t .number) 13 e)
+
+-- which changes nothing of what is written
+written-placed : (first : ℕ) (o : Outcome) (new old : List ℤ) → written (placedAt first o) new old ≡ written o new old
+unfolding written pick
+written-placed first (gives n) new old = refl
+written-placed first (refuses k p) new old = go (eqb k 13)
+  where
+    go : (b : Bool) → written (pick b (refuses k first) (refuses k p)) new old ≡ old
+    go true = refl
+    go false = refl
+
+-- the answer for octets alone, with 13 at the first of them, is the frame's
+unpack-placed : (p : Placed) (room : ℕ) → p .section .description .elements ≤ 67108864
+    → placedAt (position p) (unpackOutcome (p .section .description .compression) (p .section .description .type) (p .section .description .elements) (p .section .octets) room)
+    ≡ frameFor p room
+unfolding pick unpackOutcome frameOf
+unpack-placed p room few = rw (le-leb n 67108864 few) (go (isSome (unpackPixels (p .section .description .compression) (p .section .description .type) n (p .section .octets))) (leb n room))
+  where
+    n : ℕ
+    n = p .section .description .elements
+
+    go : (a b : Bool) → placedAt (position p) (pick a (pick b (gives n) (refuses 15 0)) (refuses 13 0)) ≡ pick a (pick b (gives n) (refuses 15 0)) (refuses 13 (position p))
+    go true true = refl
+    go true false = refl
+    go false b = refl
+
+-- the outcome of a call, and what is then in the output
+abbrev pub FrameSays : Reading (Item F.State S.Section) → ℕ → List ℤ → Outcome → List ℤ → Type 0
+FrameSays r n old o new = (o ≡ frameOutcome r n (length old)) × (new ≡ written (frameOutcome r n (length old)) (framePixels r n) old)
+
+pub frame-refused : (file : List ℕ) (n : ℕ) (r : Reading (Item F.State S.Section)) (t : Refusal) (old : List ℤ) → NumberedSays file n r (N.Refused t)
+    → FrameSays r n old (refuses (t .number) (t .place)) old
+unfolding frameOutcome written
+frame-refused file n r t old h = let e = asked-refused file n r t (λ p. frameFor p (length old)) h in (e, rw (← e))
+
+module _ (limit n : ℕ) (file : List ℕ) {p : Placed} {s : Section} (here : found (F.read limit file) n ≡ some p) (f : FrameOf file p s) where
+  frame-answer : (room : ℕ) → placedAt (s .first) (answerFor s (p .section .octets) room)
+      ≡ frameOutcome (F.read limit file) n room
+  unfolding frameOutcome
+  frame-answer room =
+      ap (λ (z : Section). placedAt (z .first) (answerFor z (p .section .octets) room)) (f .is .fields)
+      ∙ unpack-placed p room (f .few)
+      ∙ sym (asked-found (F.read limit file) n p (λ q. frameFor q room) here)
+
+  frame-pixels : pixelsFor s (p .section .octets) ≡ framePixels (F.read limit file) n
+  unfolding framePixels frameOf
+  frame-pixels =
+      ap (λ (z : Section). pixelsFor z (p .section .octets)) (f .is .fields) ∙ sym (rw here)
+
+  pub frame-says : (old : List ℤ)
+      → FrameSays (F.read limit file) n old
+      (placedAt (s .first) (answerFor s (p .section .octets) (length old)))
+      (outputFor s (p .section .octets) old)
+  unfolding unpackOutput
+  frame-says old =
+      let a = frame-answer (length old) in
+      (a, sym (written-placed (s .first) (answerFor s (p .section .octets) (length old)) (pixelsFor s (p .section .octets)) old) ∙ rw (a, frame-pixels))

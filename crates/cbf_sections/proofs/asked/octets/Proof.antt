@@ -1,0 +1,65 @@
+-- `octets` meets its contract, by that of `octets_at`: the place is in the file. Assumes nothing.
+use mathlib.Core.Path.{_≡_, _∙_, sym, subst}
+use mathlib.Core.Logic.{⊎-elim}
+use native.Mathlib.Omega.{arith}
+use denote.Ref.{now}
+use Rattle.cbf_format.specs.Files as F
+use Rattle.cbf_sections.specs.SectionCalls.{octetsPart}
+use Rattle.cbf_sections.specs.declared.asked.OctetsPlace.{OctetsPlace}
+use Rattle.cbf_sections.proofs.SectionCallLaws.{PartAt, PartFor, part-taken, place-says}
+use borrow.Author.Needs.{needs}
+use Rattle.cbf_sections.proofs.asked.octets.Statement.{statement}
+use Rattle.cbf_sections.proofs.asked.octets.Tie as tie
+
+octets-at-requires : tie.Need-octets-at-requires
+octets-at-requires c κs = search needs
+
+enum-known-place : tie.Need-enum-known-place
+enum-known-place c = search needs
+
+enum-known-place-2 : tie.Need-enum-known-place-2
+enum-known-place-2 c = search needs
+
+-- the part of the file at the place that was answered
+part : (m : tie.After-octets-at) {x : OctetsPlace} → m .octets-at .result ≡ x → PartFor (now (m .before .before .args .file)) (octetsPart (F.read (m .before .before .args .limit) (now (m .before .before .args .file))) (m .before .before .args .number)) x
+part m e =
+    let a = m .before .before .args in
+    let file = now (a .file) in
+    subst (PartFor file (octetsPart (F.read (a .limit) file) (a .number))) (sym (m .octets-at .ensures) ∙ e) (place-says (a .limit) (a .number) file .1)
+
+joined : (c : tie.At-match-came) → PartAt (now (c .before .before .before .args .file)) (octetsPart (F.read (c .before .before .before .args .limit) (now (c .before .before .before .args .file))) (c .before .before .before .args .number)) (c .match .from) (c .match .to)
+joined c = ⊎-elim
+    (λ w. rw (w .3, w .4) (part (c .before) (w .1 .given .1)))
+    (λ w. rw (w .3, w .4) (part (c .before) (w .1 .given .1)))
+    (c .match .came)
+
+add-to : tie.Need-add-to
+add-to c =
+    let b = c .before in
+    let p = part (b .before .before) (b .place2 .given .1) in
+    omega (arith, p .high)
+
+sub-result : tie.Need-sub-result
+sub-result c = let p = joined (c .before .before) in omega (arith, p .low)
+
+part-result-start : tie.Need-part-result-start
+part-result-start c = let p = joined (c .before .before) in omega (arith, p .low)
+
+part-result-end : tie.Need-part-result-end
+part-result-end c = let p = joined (c .before .before) in omega (arith, p .high)
+
+returns : tie.Need-returns
+returns c = part-taken (joined (c .before .before .before))
+
+pub octets-spec : {M : Type 1} → statement M
+octets-spec =
+    tie.close
+    (tie.spec
+    octets-at-requires
+    enum-known-place
+    enum-known-place-2
+    add-to
+    sub-result
+    part-result-start
+    part-result-end
+    returns)

@@ -1,0 +1,54 @@
+-- `octets_at` meets its contract, by that of `numbered_section`. Assumes nothing.
+use mathlib.Core.Path.{_≡_, ap, _∙_, sym}
+use denote.Ref.{now}
+use Rattle.cbf_format.specs.Files as F
+use Rattle.cbf_reader.specs.declared.survey.Numbered.{Numbered}
+use Rattle.cbf_sections.specs.SectionCalls.{octetsPlace}
+use Rattle.cbf_sections.proofs.SectionCallLaws.{placeIn, place-in}
+use borrow.Author.Needs.{needs}
+use Rattle.cbf_sections.proofs.asked.octets_at.Statement.{statement}
+use Rattle.cbf_sections.proofs.asked.octets_at.Tie as tie
+
+numbered-section-requires : tie.Need-numbered-section-requires
+numbered-section-requires c κs = search needs
+
+enum-known-numbered : tie.Need-enum-known-numbered
+enum-known-numbered c = search needs
+
+enum-known-numbered-2 : tie.Need-enum-known-numbered-2
+enum-known-numbered-2 c = search needs
+
+enum-told : tie.Need-enum-told
+enum-told c = search needs
+
+enum-told-2 : tie.Need-enum-told-2
+enum-told-2 c = search needs
+
+-- the place for each answer of the reader
+said : (m : tie.After-numbered-section) {x : Numbered} → m .numbered-section .result ≡ x
+    → placeIn x ≡ octetsPlace (F.read (m .before .before .args .limit) (now (m .before .before .args .file))) (m .before .before .args .number)
+said m e =
+    let a = m .before .before .args in
+    ap placeIn (sym e) ∙ place-in (now (a .file)) (a .number) (F.read (a .limit) (now (a .file))) (m .numbered-section .result) (m .numbered-section .ensures)
+
+returns : tie.Need-returns
+returns c = said (c .before .before .before) (c .before .numbered .given .1)
+
+returns-2 : tie.Need-returns-2
+returns-2 c = let b = c .before .before .before .before in rw (c .enum-told .given .1) at (said (b .before .before) (b .numbered2 .given .1))
+
+returns-3 : tie.Need-returns-3
+returns-3 c = let b = c .before .before .before .before in rw (c .enum-told2 .given .1) at (said (b .before .before) (b .numbered2 .given .1))
+
+pub octets-at-spec : {M : Type 1} → statement M
+octets-at-spec =
+    tie.close
+    (tie.spec
+    numbered-section-requires
+    enum-known-numbered
+    enum-known-numbered-2
+    enum-told
+    enum-told-2
+    returns
+    returns-2
+    returns-3)
