@@ -4,12 +4,14 @@
  * here, and to touch no other memory than what it is lent.
  *
  * What a caller owes, and nothing else: each pointer is valid for as many elements as the length after it says (a length
- * of 0 goes with any pointer that is not null and is aligned for its type), and what is lent for writing overlaps nothing
- * else that is lent.
+ * of 0 goes with any pointer that is not null and is aligned for its type), start is a valid pointer to one uint64_t, and
+ * what is lent for writing overlaps nothing else that is lent.
  *
  * Each function returns a word. Its upper 32 bits are the refusal number, 0 for none; its lower 32 bits are the place of
  * a refusal, or the length of the answer. A refusal leaves all lent memory as it was; success leaves what lies beyond the
  * answer as it was.
+ *
+ * A function that takes a file reads all of it before it writes anything. Sections are numbered from 1, as in the listing.
  */
 #ifndef CBF_H
 #define CBF_H
@@ -49,15 +51,31 @@ uint64_t cbf_unpack_octets(uint8_t element_type, uint8_t compression, const uint
                            size_t count, int64_t *pixels, size_t room);
 
 /* Writes the listing of a file: a line for each section with its number, position, size, elements, compression, type and
- * data block. The answer is the number of bytes, at most 92,672. A file is read whole before anything is written.
+ * data block. The answer is the number of bytes, at most 92,672.
  * Refusals: 1 to 11 for what is wrong in the file, with its place; 15 at 0 for too little room. */
 uint64_t cbf_listing(const uint8_t *file, size_t file_len, uint8_t *out, size_t room);
 
-/* Writes the catalogue of a file: 8 bytes, then 64 for each section. The answer is the number of bytes, at most 32,776. A
- * file is read whole before anything is written.
+/* Writes the catalogue of a file: 8 bytes, then 64 for each section. The answer is the number of bytes, at most 32,776.
  * Refusals, in this order: 1 to 11 for what is wrong in the file, with its place; 17 for a data block name of more than 32
  * characters, at the boundary line of the first such section; 15 at 0 for too little room. */
 uint64_t cbf_catalogue(const uint8_t *file, size_t file_len, uint8_t *out, size_t room);
+
+/* Counts the sections of a file. The answer is their number, at most 512.
+ * Refusals: 1 to 11 for what is wrong in the file, with its place. */
+uint64_t cbf_count(const uint8_t *file, size_t file_len);
+
+/* Finds the octets of a BINARY section, which lie in the file as they are. The answer is how many they are, and start gets
+ * the place of the first one: the octets are file[*start] and those after it. Nothing is copied.
+ * Refusals, in this order: 1 to 11 for what is wrong in the file, with its place; 12 at 0 for a section number that is 0 or
+ * above the count; 18 at 0 for a BASE64 section. start is written only where nothing is refused. */
+uint64_t cbf_octets(const uint8_t *file, size_t file_len, size_t section, uint64_t *start);
+
+/* Unpacks the pixels of a section, of either encoding and either compression. The answer is how many they are, at most
+ * 67,108,864. Room for as many pixels as the file has bytes is always enough.
+ * Refusals, in this order: 1 to 11 for what is wrong in the file, with its place; 12 at 0 for a section number that is 0 or
+ * above the count; 13 for octets that run out or remain, or a pixel that leaves its type, at the section's first octet
+ * (BASE64: the byte after the empty line); 15 at 0 for too little room. */
+uint64_t cbf_unpack(const uint8_t *file, size_t file_len, size_t section, int64_t *pixels, size_t room);
 
 #ifdef __cplusplus
 }

@@ -19,6 +19,15 @@ extern "C" {
     ) -> u64;
     fn cbf_listing(file: *const u8, file_len: usize, out: *mut u8, room: usize) -> u64;
     fn cbf_catalogue(file: *const u8, file_len: usize, out: *mut u8, room: usize) -> u64;
+    fn cbf_count(file: *const u8, file_len: usize) -> u64;
+    fn cbf_octets(file: *const u8, file_len: usize, section: usize, start: *mut u64) -> u64;
+    fn cbf_unpack(
+        file: *const u8,
+        file_len: usize,
+        section: usize,
+        pixels: *mut i64,
+        room: usize,
+    ) -> u64;
 }
 
 /// The length of the answer, or a refusal's number and place.
@@ -73,4 +82,35 @@ pub fn listing(file: &[u8], out: &mut [u8]) -> Answer {
 pub fn catalogue(file: &[u8], out: &mut [u8]) -> Answer {
     // Sound: both slices are valid for their lengths, and `out` is borrowed alone.
     answer(unsafe { cbf_catalogue(file.as_ptr(), file.len(), out.as_mut_ptr(), out.len()) })
+}
+
+pub fn count(file: &[u8]) -> Answer {
+    // Sound: the slice is valid for its length.
+    answer(unsafe { cbf_count(file.as_ptr(), file.len()) })
+}
+
+/// Where the octets of a BINARY section start is written to `start`; the answer is how many they are.
+pub fn find_octets(file: &[u8], section: usize, start: &mut u64) -> Answer {
+    // Sound: the slice is valid for its length, and `start` is borrowed alone.
+    answer(unsafe { cbf_octets(file.as_ptr(), file.len(), section, start) })
+}
+
+/// The octets of a BINARY section, a part of the file.
+pub fn octets(file: &[u8], section: usize) -> Result<&[u8], (u32, u32)> {
+    let mut start = 0;
+    let length = find_octets(file, section, &mut start)?;
+    Ok(&file[start as usize..][..length])
+}
+
+pub fn unpack(file: &[u8], section: usize, pixels: &mut [i64]) -> Answer {
+    // Sound: both slices are valid for their lengths, and `pixels` is borrowed alone.
+    answer(unsafe {
+        cbf_unpack(
+            file.as_ptr(),
+            file.len(),
+            section,
+            pixels.as_mut_ptr(),
+            pixels.len(),
+        )
+    })
 }

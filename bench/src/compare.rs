@@ -21,7 +21,7 @@ const EDGES: [i64; 12] = [
     4_294_967_295,
 ];
 
-fn canaries(random: &mut Random, n: usize) -> Vec<i64> {
+pub fn canaries(random: &mut Random, n: usize) -> Vec<i64> {
     (0..n).map(|_| random.next() as i64).collect()
 }
 
@@ -87,7 +87,8 @@ fn pixel(way: usize, last: i64, least: i64, greatest: i64, random: &mut Random) 
     p.clamp(least, greatest)
 }
 
-fn pixels(n: usize, least: i64, greatest: i64, random: &mut Random) -> Vec<i64> {
+/// Pixels from least to greatest, near to each other and far.
+pub fn pixels(n: usize, least: i64, greatest: i64, random: &mut Random) -> Vec<i64> {
     let way = random.below(8);
     let mut last = 0;
     (0..n)
@@ -137,7 +138,7 @@ fn damage(octets: &mut Vec<u8>, random: &mut Random) {
 }
 
 /// Octets of pixels, some of them wider than they need to be.
-fn overlong(pixels: &[i64], random: &mut Random) -> Vec<u8> {
+pub fn overlong(pixels: &[i64], random: &mut Random) -> Vec<u8> {
     let mut octets = Vec::new();
     let mut last = 0;
     let often = 1 + random.below(50);

@@ -3,6 +3,8 @@
 
 use crate::cbf::{self, Answer};
 use crate::compare::differ;
+use crate::compare_sections::{self, Read, Tally as Sections};
+use crate::compare_vectors;
 use crate::damage::damage;
 use crate::files;
 use crate::frames::Random;
@@ -21,20 +23,16 @@ type Said = Result<Vec<u8>, Refusal>;
 /// A call of the library that writes bytes.
 type Call = fn(&[u8], &mut [u8]) -> Answer;
 
-fn said(file: &[u8]) -> Said {
-    Ok(reader::listing(&reader::read(file)?))
+fn listed(read: &Read) -> Said {
+    read.as_ref()
+        .map(|sections| reader::listing(sections))
+        .map_err(|refusal| *refusal)
 }
 
-fn catalogued(file: &[u8]) -> Said {
-    reader::catalogue(&reader::read(file)?)
-}
-
-/// The line of a refusal, or the listing.
-fn lines(said: &Said) -> Vec<u8> {
-    match said {
-        Ok(listing) => listing.clone(),
-        Err((number, place)) => format!("refused {number} at {place}\n").into_bytes(),
-    }
+fn catalogued(read: &Read) -> Said {
+    read.as_ref()
+        .map_err(|refusal| *refusal)
+        .and_then(|sections| reader::catalogue(sections))
 }
 
 /// How often each refusal was met, and at 0 how many files had none.
@@ -42,8 +40,8 @@ fn lines(said: &Said) -> Vec<u8> {
 struct Tally([usize; 12]);
 
 impl Tally {
-    fn take(&mut self, said: &Said) {
-        self.0[said.as_ref().map_or_else(|r| r.0 as usize, |_| 0)] += 1;
+    fn take(&mut self, read: &Read) {
+        self.0[read.as_ref().map_or_else(|r| r.0 as usize, |_| 0)] += 1;
     }
 }
 
@@ -82,59 +80,11 @@ fn check_rooms(call: Call, file: &[u8], said: &Said, random: &mut Random) -> usi
     rooms.len()
 }
 
-/// Both calls.
-fn check(file: &[u8], said: &Said, random: &mut Random) -> usize {
-    check_rooms(cbf::listing, file, said, random)
-        + check_rooms(cbf::catalogue, file, &catalogued(file), random)
-}
-
-/// The transcript's words for what a catalogue is.
-fn catalogue_words(said: &Said) -> String {
-    let hash = |bytes: &[u8]| {
-        bytes.iter().fold(0u32, |h, &octet| {
-            h.wrapping_mul(31).wrapping_add(u32::from(octet))
-        })
-    };
-    match said {
-        Ok(bytes) => format!("length {} hash {}", bytes.len(), hash(bytes)),
-        Err((number, place)) => format!("refused {number} at {place}"),
-    }
-}
-
-/// The vectors' catalogues: the library's against the transcript.
-fn check_catalogues(cases: &[(Vec<u8>, Vec<u8>)]) -> usize {
-    for ((file, _), words) in cases.iter().zip(vectors::catalogues()) {
-        let mut out = vec![0; 262_144];
-        let got = cbf::catalogue(file, &mut out).map(|length| out[..length].to_vec());
-        if catalogue_words(&got) != words {
-            differ(format!(
-                "catalogue: {}, and not {words}",
-                catalogue_words(&got)
-            ));
-        }
-    }
-    cases.len()
-}
-
-fn check_vectors(cases: &[(Vec<u8>, Vec<u8>)], random: &mut Random) -> usize {
-    let mut calls = check_catalogues(cases);
-    for (index, (file, listing)) in cases.iter().enumerate() {
-        let mut out = vec![0; listing.len()];
-        let got = cbf::listing(file, &mut out);
-        let library = lines(&got.map(|length| out[..length.min(out.len())].to_vec()));
-        let reader = said(file);
-        if library != *listing || lines(&reader) != *listing {
-            differ(format!(
-                "vector {}: library {:?}, reader {:?}, and not {:?}",
-                index + 1,
-                library.escape_ascii().to_string(),
-                lines(&reader).escape_ascii().to_string(),
-                listing.escape_ascii().to_string()
-            ));
-        }
-        calls += 1 + check(file, &reader, random);
-    }
-    calls
+/// All calls on a file; tells how many write bytes.
+fn check(file: &[u8], read: &Read, random: &mut Random, sections: &mut Sections) -> usize {
+    compare_sections::check(file, read, random, sections);
+    check_rooms(cbf::listing, file, &listed(read), random)
+        + check_rooms(cbf::catalogue, file, &catalogued(read), random)
 }
 
 /// One damage, mostly.
@@ -145,84 +95,112 @@ fn damaged(mut file: Vec<u8>, other: &[u8], random: &mut Random) -> Vec<u8> {
     file
 }
 
-/// The empty file, and files of the greatest length and one byte above it: that one is refused before it is looked at.
-fn check_lengths(random: &mut Random) -> usize {
-    let zeros = vec![0; reader::FILE_LIMIT + 1];
-    [0, reader::FILE_LIMIT, reader::FILE_LIMIT + 1]
-        .map(|length| check(&zeros[..length], &said(&zeros[..length]), random))
-        .iter()
-        .sum()
+#[derive(Clone, Copy)]
+enum Kind {
+    Given,
+    Chance,
+    Damaged,
 }
 
-fn take(file: &[u8], tally: &mut Tally, random: &mut Random) -> usize {
-    let said = said(file);
-    tally.take(&said);
-    check(file, &said, random)
+/// What the files met, by their kind, and where chance stands.
+struct Run {
+    random: Random,
+    tallies: [Tally; 3],
+    sections: Sections,
 }
 
-fn check_good(tally: &mut Tally, random: &mut Random) -> usize {
-    (0..GOOD)
-        .map(|_| take(&files::good(random), tally, random))
-        .sum()
-}
-
-fn check_damaged(tally: &mut Tally, random: &mut Random) -> usize {
-    let mut last = Vec::new();
-    let mut calls = 0;
-    for _ in 0..DAMAGED {
-        let file = files::good(random);
-        calls += take(&damaged(file.clone(), &last, random), tally, random);
-        last = file;
+impl Run {
+    fn check(&mut self, file: &[u8], kind: Kind) -> usize {
+        let read = reader::read(file);
+        self.tallies[kind as usize].take(&read);
+        check(file, &read, &mut self.random, &mut self.sections)
     }
-    calls
-}
 
-fn check_damaged_vectors(
-    cases: &[(Vec<u8>, Vec<u8>)],
-    tally: &mut Tally,
-    random: &mut Random,
-) -> usize {
-    let files = cases.iter().map(|(file, _)| file);
-    let small: Vec<&Vec<u8>> = files.filter(|f| f.len() <= VECTOR_LIMIT).collect();
-    let mut calls = 0;
-    for _ in 0..DAMAGED_VECTORS {
-        let file = small[random.below(small.len())].clone();
-        let other = small[random.below(small.len())];
-        calls += take(&damaged(file, other, random), tally, random);
+    /// The empty file, and files of the greatest length and one byte above it: that one is refused before it is looked at.
+    fn lengths(&mut self) -> usize {
+        let zeros = vec![0; reader::FILE_LIMIT + 1];
+        [0, reader::FILE_LIMIT, reader::FILE_LIMIT + 1]
+            .map(|length| self.check(&zeros[..length], Kind::Given))
+            .iter()
+            .sum()
     }
-    calls
-}
 
-/// Tells what the files were; whether they show enough.
-fn show(good: &Tally, bad: &Tally) -> bool {
-    print!("{} vectors, {GOOD} files by chance", vectors::COUNT);
-    print!(
-        " ({} accepted), {} damaged",
-        good.0[0],
-        DAMAGED + DAMAGED_VECTORS
-    );
-    print!(" ({} accepted); refusal -> how often:", bad.0[0]);
-    let times: Vec<usize> = (1..=11).map(|n| good.0[n] + bad.0[n]).collect();
-    for (index, times) in times.iter().enumerate() {
-        print!(" {} -> {times}", index + 1);
+    fn good(&mut self) -> usize {
+        let mut calls = 0;
+        for _ in 0..GOOD {
+            let file = files::good(&mut self.random);
+            calls += self.check(&file, Kind::Chance);
+        }
+        calls
     }
-    println!();
-    !times.contains(&0) && good.0[0] >= GOOD / 2
+
+    fn damaged(&mut self, file: Vec<u8>, other: &[u8]) -> usize {
+        let file = damaged(file, other, &mut self.random);
+        self.check(&file, Kind::Damaged)
+    }
+
+    fn damaged_files(&mut self) -> usize {
+        let mut last = Vec::new();
+        let mut calls = 0;
+        for _ in 0..DAMAGED {
+            let file = files::good(&mut self.random);
+            calls += self.damaged(file.clone(), &last);
+            last = file;
+        }
+        calls
+    }
+
+    fn damaged_vectors(&mut self, cases: &[(Vec<u8>, Vec<u8>)]) -> usize {
+        let files = cases.iter().map(|(file, _)| file);
+        let small: Vec<&Vec<u8>> = files.filter(|f| f.len() <= VECTOR_LIMIT).collect();
+        let mut calls = 0;
+        for _ in 0..DAMAGED_VECTORS {
+            let file = small[self.random.below(small.len())].clone();
+            let other = small[self.random.below(small.len())];
+            calls += self.damaged(file, other);
+        }
+        calls
+    }
+
+    /// Tells what the files were; whether they show enough.
+    fn show(&self) -> bool {
+        let [_, chance, damaged] = &self.tallies;
+        print!("{} vectors, {GOOD} files by chance", vectors::COUNT);
+        print!(
+            " ({} accepted), {} damaged",
+            chance.0[0],
+            DAMAGED + DAMAGED_VECTORS
+        );
+        print!(" ({} accepted); refusal -> how often:", damaged.0[0]);
+        let times: Vec<usize> = (1..=11).map(|n| chance.0[n] + damaged.0[n]).collect();
+        for (index, times) in times.iter().enumerate() {
+            print!(" {} -> {times}", index + 1);
+        }
+        println!();
+        let enough = !times.contains(&0) && chance.0[0] >= GOOD / 2;
+        if !enough {
+            println!("NOT ENOUGH: a refusal from 1 to 11 is not met, or over half of the files by chance are refused");
+        }
+        enough
+    }
 }
 
 /// Compares all files, and tells how many calls there were.
 pub fn all() -> usize {
-    let mut random = Random::new(3);
-    let (mut good, mut bad) = (Tally::default(), Tally::default());
+    let mut run = Run {
+        random: Random::new(3),
+        tallies: Default::default(),
+        sections: Sections::default(),
+    };
     let cases = vectors::cases();
-    let calls = check_vectors(&cases, &mut random)
-        + check_lengths(&mut random)
-        + check_good(&mut good, &mut random)
-        + check_damaged(&mut bad, &mut random)
-        + check_damaged_vectors(&cases, &mut bad, &mut random);
-    if !show(&good, &bad) {
-        println!("NOT ENOUGH: a refusal from 1 to 11 is not met, or over half of the files by chance are refused");
+    let mut calls = compare_vectors::all() + run.lengths();
+    for (file, _) in &cases {
+        calls += run.check(file, Kind::Given);
+    }
+    calls += run.good() + run.damaged_files() + run.damaged_vectors(&cases);
+    let enough = run.show();
+    if !run.sections.show() || !enough {
         std::process::exit(1);
     }
-    calls
+    calls + run.sections.calls()
 }

@@ -1,7 +1,7 @@
 //! Files by chance: good ones, and some with a slip.
 
+use crate::contents::content;
 use crate::frames::Random;
-use crate::reference::range;
 
 const OPENING: &str = "--CIF-BINARY-FORMAT-SECTION--";
 const CLOSING: &str = "--CIF-BINARY-FORMAT-SECTION----";
@@ -9,7 +9,7 @@ const MARKER: &[u8] = b"\x0c\x1a\x04\xd5";
 const LINE_ENDS: [&[u8]; 3] = [b"\r\n", b"\r", b"\n"];
 const LETTERS: &[u8; 64] = b"ABCDEFGHIJKLMNOPQRSTUVWXYZabcdefghijklmnopqrstuvwxyz0123456789+/";
 
-const ELEMENT_TYPES: [&str; 6] = [
+pub const ELEMENT_TYPES: [&str; 6] = [
     "unsigned 8-bit integer",
     "signed 8-bit integer",
     "unsigned 16-bit integer",
@@ -238,20 +238,8 @@ impl Maker<'_> {
         let base64 = self.one_in(2);
         let byte_offset = self.one_in(2);
         let element_type = 1 + self.random.below(6);
-        let elements = match self.random.below(5) {
-            0 => 0,
-            1 => self.random.below(4),
-            2 => 16,
-            3 => self.random.below(40),
-            _ => self.random.below(150),
-        };
-        let size = match self.random.below(4) {
-            _ if !byte_offset => elements * range(element_type as u8).unwrap().2,
-            0 => elements,
-            1 => 15 * elements,
-            _ => elements + self.random.below(2 * elements + 1),
-        };
-        let mut headers = self.needed_headers(base64, size, elements);
+        let (octets, elements) = content(element_type as u8, byte_offset, self.random);
+        let mut headers = self.needed_headers(base64, octets.len(), elements);
         self.other_headers(&mut headers, byte_offset, element_type, elements);
         if self.one_in(20) {
             self.slip(&mut headers);
@@ -266,12 +254,15 @@ impl Maker<'_> {
             self.header(name, value);
         }
         self.line("");
-        let octets = self.octets(size);
         if base64 {
             self.base64(&octets);
         } else {
             self.binary(&octets);
         }
+        self.closing();
+    }
+
+    fn closing(&mut self) {
         let right = !self.one_in(150);
         self.line(if right { CLOSING } else { OPENING });
         let blanks = match self.random.below(60) {
@@ -484,17 +475,6 @@ impl Maker<'_> {
         }
     }
 
-    /// Now and then with a closing inside.
-    fn octets(&mut self, size: usize) -> Vec<u8> {
-        let mut octets: Vec<u8> = (0..size).map(|_| self.random.next() as u8).collect();
-        let closing = format!("\r\n{CLOSING}\r\n;\r\n{OPENING}\n");
-        if size >= closing.len() && self.one_in(2) {
-            let at = self.random.below(size - closing.len() + 1);
-            octets[at..at + closing.len()].copy_from_slice(closing.as_bytes());
-        }
-        octets
-    }
-
     fn binary(&mut self, octets: &[u8]) {
         let marker: &[u8] = match self.random.below(150) {
             0 => b"",
@@ -523,23 +503,49 @@ impl Maker<'_> {
             6 => text.push_str("===="),
             _ => {}
         }
-        let width = [76, 80, 1 + self.random.below(80)][self.random.below(3)];
-        let blanks = self.one_in(6);
-        for part in text.as_bytes().chunks(width) {
-            let part = String::from_utf8_lossy(part);
-            if blanks && part.len() < 70 {
-                let at = self.random.below(part.len());
-                let (left, right) = part.split_at(at);
-                let between = self.blanks(5);
-                self.line(&format!("{left}{between}{right}"));
+        self.base64_lines(&text);
+    }
+
+    /// The text in lines of one length or of many, with blanks between its letters and empty lines, or without.
+    fn base64_lines(&mut self, mut text: &str) {
+        let width = [76, 80, 1 + self.random.below(80), 1][self.random.below(4)];
+        let (many, blanks) = (self.one_in(4), self.random.below(10));
+        let crowded = 1 + self.random.below(4);
+        let often = [7, 40, 400][self.random.below(3)];
+        while !text.is_empty() {
+            let width = if many {
+                1 + self.random.below(80)
             } else {
-                self.line(&part);
-            }
-            if self.one_in(40) {
+                width
+            };
+            let (part, rest) = text.split_at(width.min(text.len()));
+            text = rest;
+            let line = match blanks {
+                0 => self.with_blanks(part, crowded),
+                1 => self.with_blanks(part, 40),
+                _ => part.into(),
+            };
+            self.line(&line);
+            if self.one_in(often) {
                 let blanks = self.blanks(2);
                 self.line(&blanks);
             }
         }
+    }
+
+    /// With blanks before about one in so many letters, as far as the line has room.
+    fn with_blanks(&mut self, part: &str, often: usize) -> String {
+        let mut room = 80 - part.len();
+        let mut line = String::new();
+        for letter in part.chars() {
+            if self.one_in(often) {
+                let blanks = self.blanks(room.min(5));
+                room -= blanks.len();
+                line += &blanks;
+            }
+            line.push(letter);
+        }
+        line + &self.blanks(room.min(1))
     }
 }
 

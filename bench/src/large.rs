@@ -1,6 +1,6 @@
-//! Large files for measuring the speed of reading: text, headers, BASE64, octets.
+//! Large files for measuring speed: text, headers, BASE64, octets, and one section.
 
-use crate::files::base64_text;
+use crate::files::{base64_text, ELEMENT_TYPES};
 use crate::frames::Random;
 use std::fmt::Write;
 
@@ -71,10 +71,14 @@ pub fn text() -> Vec<u8> {
     text.into_bytes()
 }
 
-/// Sections of a few octets, each with all known headers and two others.
 pub fn headers() -> Vec<u8> {
+    sections(SECTIONS)
+}
+
+/// Sections of a few octets, each with all known headers and two others.
+pub fn sections(count: usize) -> Vec<u8> {
     let mut file = b"###CBF: VERSION 1.5\r\ndata_image_1\r\n".to_vec();
-    for number in 1..=SECTIONS {
+    for number in 1..=count {
         let elements = 1 + number % 8;
         let text = format!(
             "_array_data.data\r\n;\r\n--CIF-BINARY-FORMAT-SECTION--\r\n\
@@ -107,8 +111,46 @@ pub fn base64(more: usize) -> Vec<u8> {
         X-Binary-Number-of-Elements: {size}\r\n\r\n"
     );
     let mut file = text.into_bytes();
+    put_lines(&letters, &mut file);
+    file.extend_from_slice(b"--CIF-BINARY-FORMAT-SECTION----\r\n;\r\n");
+    file
+}
+
+fn put_lines(letters: &str, file: &mut Vec<u8>) {
     for line in letters.as_bytes().chunks(BASE64_WIDTH) {
         file.extend_from_slice(line);
+        file.extend_from_slice(b"\r\n");
+    }
+}
+
+/// A file with one section.
+pub fn section(
+    base64: bool,
+    byte_offset: bool,
+    element_type: u8,
+    elements: usize,
+    octets: &[u8],
+) -> Vec<u8> {
+    let encoding = if base64 { "BASE64" } else { "BINARY" };
+    let conversions = if byte_offset {
+        ";\r\n     conversions=\"x-CBF_BYTE_OFFSET\""
+    } else {
+        ""
+    };
+    let element_type = ELEMENT_TYPES[usize::from(element_type) - 1];
+    let size = octets.len();
+    let text = format!(
+        "###CBF: VERSION 1.5\r\ndata_image_1\r\n_array_data.data\r\n;\r\n--CIF-BINARY-FORMAT-SECTION--\r\n\
+        Content-Type: application/octet-stream{conversions}\r\nContent-Transfer-Encoding: {encoding}\r\n\
+        X-Binary-Size: {size}\r\nX-Binary-ID: 1\r\nX-Binary-Element-Type: \"{element_type}\"\r\n\
+        X-Binary-Number-of-Elements: {elements}\r\n\r\n"
+    );
+    let mut file = text.into_bytes();
+    if base64 {
+        put_lines(&base64_text(octets), &mut file);
+    } else {
+        file.extend_from_slice(b"\x0c\x1a\x04\xd5");
+        file.extend_from_slice(octets);
         file.extend_from_slice(b"\r\n");
     }
     file.extend_from_slice(b"--CIF-BINARY-FORMAT-SECTION----\r\n;\r\n");

@@ -5,18 +5,25 @@
 //! bench program PATH  compare what the program cbf_list prints
 //! bench run WHO WHAT FRAME TYPE TIMES    one call, that many times: what valgrind counts
 //! bench run WHO FILE TIMES               one reading of a large file, that many times
+//! bench run WHO CALL FILE TIMES          one call on a file's sections, that many times
 
 mod cbf;
 mod compare;
 mod compare_files;
+mod compare_sections;
+mod compare_vectors;
+mod contents;
 mod damage;
 mod files;
 mod frames;
 mod large;
+mod measure_calls;
 mod measure_files;
+mod other_programs;
 mod program;
 mod reader;
 mod reference;
+mod sections;
 mod vectors;
 
 use std::process::Command;
@@ -129,11 +136,25 @@ fn measure() -> bool {
     met
 }
 
+/// Whether all bars are met.
+fn measure_all() -> bool {
+    let met = [
+        measure(),
+        measure_files::measure(),
+        measure_calls::measure(),
+    ];
+    !met.contains(&false)
+}
+
 fn compare() {
     println!("bench: {} calls compared, no difference", compare::all());
     println!(
         "bench: {} calls on files compared, no difference",
         compare_files::all()
+    );
+    println!(
+        "bench: {} calls on files by CBFlib, fabio and DIALS compared, no difference",
+        other_programs::all()
     );
 }
 
@@ -153,6 +174,9 @@ fn main() {
         ["run", who, file, times] => {
             measure_files::run(who, file, times.parse().expect("a number"));
         }
+        ["run", who, call, file, times] => {
+            measure_calls::run(who, call, file, times.parse().expect("a number"));
+        }
         ["compare"] => compare(),
         ["program", path] => {
             let runs = program::all(path);
@@ -160,13 +184,12 @@ fn main() {
         }
         [] => {
             compare();
-            let met = measure();
-            if !measure_files::measure() || !met {
+            if !measure_all() {
                 std::process::exit(1);
             }
         }
         _ => {
-            println!("usage: bench [compare | program PATH | run WHO WHAT FRAME TYPE TIMES | run WHO FILE TIMES]");
+            println!("usage: bench [compare | program PATH | run WHO WHAT FRAME TYPE TIMES | run WHO FILE TIMES | run WHO CALL FILE TIMES]");
             std::process::exit(2);
         }
     }

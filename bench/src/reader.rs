@@ -10,14 +10,13 @@ const SECTION_LIMIT: usize = 512;
 
 const IDENTIFIER: &[u8] = b"###CBF: VERSION";
 const OPENING: &[u8] = b"--CIF-BINARY-FORMAT-SECTION--";
-const CLOSING: &[u8] = b"--CIF-BINARY-FORMAT-SECTION----";
+pub const CLOSING: &[u8] = b"--CIF-BINARY-FORMAT-SECTION----";
 const MARKER: &[u8] = b"\x0c\x1a\x04\xd5";
 
 /// Number and place.
 pub type Refusal = (u32, u32);
 
 /// Places are offsets in the file. An ID or a dimension that is absent is 0.
-#[allow(dead_code)] // Where a section ends is not told by any call yet.
 pub struct Section<'a> {
     /// The opening boundary's first hyphen.
     pub boundary: usize,

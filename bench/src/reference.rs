@@ -41,7 +41,7 @@ fn little(octets: &[u8]) -> i64 {
 }
 
 /// The difference at `at`, and where the next one starts.
-#[inline]
+#[inline(always)] // The peer's speed is not to hang on how many callers there are.
 fn difference(octets: &[u8], mut at: usize) -> Option<(i64, usize)> {
     for (index, &(width, half)) in WIDTHS.iter().enumerate() {
         let d = little(octets.get(at..at + width)?);
@@ -128,7 +128,7 @@ pub fn unpack(
 
 /// The peer in the table of speeds: the same guarantees, in two plain passes over slices.
 pub mod peer {
-    use super::{difference, range};
+    use super::{difference, little, range};
 
     pub fn unpack(
         element_type: u8,
@@ -158,6 +158,25 @@ pub mod peer {
             last += d;
             at = next;
             *pixel = last;
+        }
+        Ok(count)
+    }
+
+    pub fn unpack_uncompressed(
+        element_type: u8,
+        octets: &[u8],
+        count: usize,
+        out: &mut [i64],
+    ) -> Result<usize, u32> {
+        let (least, greatest, width) = range(element_type).ok_or(13u32)?;
+        if octets.len() != width * count {
+            return Err(13);
+        }
+        let out = out.get_mut(..count).ok_or(15u32)?;
+        // An unsigned pixel is a signed one without the bits above its width.
+        let bits = if least < 0 { -1 } else { greatest };
+        for (pixel, part) in out.iter_mut().zip(octets.chunks_exact(width)) {
+            *pixel = little(part) & bits;
         }
         Ok(count)
     }

@@ -43,9 +43,28 @@ pub fn cases() -> Vec<(Vec<u8>, Vec<u8>)> {
 }
 
 /// What the transcript says of each file's catalogue.
-pub fn catalogues() -> impl Iterator<Item = &'static str> {
-    TRANSCRIPT
+pub fn catalogues() -> Vec<&'static str> {
+    let catalogues: Vec<&str> = TRANSCRIPT
         .lines()
         .filter_map(|line| line.strip_prefix("catalogue "))
         .filter(|words| !words.starts_with("short "))
+        .collect();
+    assert_eq!(catalogues.len(), COUNT);
+    catalogues
+}
+
+/// What the transcript says of each file's octets and pixels: the lines that start with `octets` or `unpack`.
+pub fn section_lines() -> Vec<Vec<&'static str>> {
+    let mut cases: Vec<Vec<&str>> = Vec::new();
+    for line in TRANSCRIPT.lines() {
+        if line.starts_with("case ") {
+            cases.push(Vec::new());
+        } else if line.starts_with("octets ") || line.starts_with("unpack ") {
+            cases
+                .last_mut()
+                .expect("a case before its lines")
+                .push(line);
+        }
+    }
+    cases
 }

@@ -1,29 +1,30 @@
 -- The entries of the sections that a walk over a file came past: their length, the first name that is too long, and where they are written. Assumes nothing.
-use mathlib.Core.Path.{_≡_, refl, sym, ap, _∙_}
-use mathlib.Core.Option.{none, some}
+use mathlib.Core.Path.{_≡_, refl, sym, ap, _∙_, subst}
+use mathlib.Core.Option.{Option, none, some}
 use mathlib.Core.Bool.{Bool, true, false, cond}
 use mathlib.Core.List.{List, [], _∷_, _++_, append-assoc, append-nil}
 use Prim.Native.Nat.{ℕ, suc, _+_, _*_, _-_, _≤_, _<_}
 use native.Mathlib.Omega.{arith}
-use borrow.Author.Tests.{leb-true, le-leb}
-use lib.Dec.{leb}
+use borrow.Author.Tests.{leb-true, le-leb, le-ltb, ltb-false}
+use lib.Dec.{leb, ltb}
 use lib.ListN.{length, length-append}
 use lib.Seq.{sets, length-slice}
-use Rattle.cbf_walk.specs.Reading.{Item, Reading, good}
+use Rattle.cbf_walk.specs.Reading.{Item, Reading, good, flat}
+use Rattle.cbf_walk.proofs.ReadingLaws.{flat-append}
 use Rattle.cbf_pixels.specs.declared.Refusal.{Refusal}
 use Rattle.cbf_format.specs.Sections as S
 use Rattle.cbf_format.specs.Files as F
 use Rattle.cbf_format.specs.Listing.{Placed, sections}
 use Rattle.cbf_format.specs.Catalogue.{labelWidth, entryOf, entries, longName}
+use Rattle.cbf_format.proofs.PlaceLaws.{long-name-from}
 use Rattle.cbf_reader.specs.WalkPlaces.{whole, startCursor, Come, SectionOf, NextSays}
 use Rattle.cbf_reader.specs.declared.step.Cursor.{Cursor}
 use Rattle.cbf_reader.specs.declared.step.Section.{Section}
 use Rattle.cbf_reader.specs.declared.walk.NextSection.{NextSection}
 use Rattle.cbf_reader.specs.declared.walk.NextSection.the-variants as W
+use Rattle.cbf_reader.proofs.WalkLaws.{come-length}
 use Rattle.cbf_reader.proofs.LoopLaws.{LoopAt, loop-start, LoopMore, AllRead, loop-count, loop-front, loop-past, loop-refused, loop-end, loop-more}
-use Rattle.cbf.specs.Outcomes.{entryFor, withName, finishedBy, foundName, entriesOf, entriesIn, EntriesFit}
-use Rattle.cbf.specs.declared.entries.LongName.{LongName}
-use Rattle.cbf.specs.declared.entries.LongName.the-variants.{Missing, At}
+use Rattle.cbf.specs.Outcomes.{entryFor, noPlace, withName, finishedBy, foundName, entriesOf, entriesIn, EntriesFit}
 use Rattle.cbf.specs.declared.entries.Counted.{Counted}
 use Rattle.cbf.specs.declared.entries.Counted.the-variants as C
 use Rattle.cbf.proofs.Puts.{putIf, put-if-length, put-if-none, put-if-off, put-if-more}
@@ -70,22 +71,35 @@ length-entries (p ∷ ps) e =
     let l : length (entryOf p) ≡ 64 = rw length-entry in
     omega (arith, length-append (entryOf p) (entries ps), l, length-entries ps (f .1))
 
--- one section more
-found-last : (a : List Placed) (p : Placed)
-    → foundName (longName (a ++ (p ∷ []))) ≡ withName (foundName (longName a)) (length (p .section .block)) (p .boundary)
-unfolding longName
-found-last [] p = go (leb (length (p .section .block)) labelWidth)
+-- a place that is found stays, whatever comes after it
+found-stays : (t : Bool) (a b : ℕ) → a ≤ b → a ≡ cond t a (cond (ltb a b) a b)
+found-stays true a b h = refl
+found-stays false a b h = go (ltb a b) refl
   where
-    go : (t : Bool) → foundName (cond t none (some (p .boundary))) ≡ cond t Missing (At (p .boundary))
+    go : (u : Bool) → ltb a b ≡ u → a ≡ cond u a b
+    go true q = refl
+    go false q = omega (arith, ltb-false a b q)
+
+-- the first long name with the section p more, and without it, as the code has them
+abbrev FoundWith : Placed → Option ℕ → Option ℕ → Type 0
+FoundWith p o more = foundName more ≡ withName (foundName o) (length (p .section .block)) (p .boundary)
+
+-- for a section in a file, after the others
+found-last : (a : List Placed) (p : Placed) → p .boundary ≤ noPlace → ((q : ℕ) → longName a ≡ some q → q ≤ p .boundary)
+    → FoundWith p (longName a) (longName (a ++ (p ∷ [])))
+unfolding longName
+found-last [] p h after = rw (le-ltb noPlace (p .boundary) h) (go (leb (length (p .section .block)) labelWidth))
+  where
+    go : (t : Bool) → foundName (cond t none (some (p .boundary))) ≡ cond t noPlace (p .boundary)
     go true = refl
     go false = refl
-found-last (q ∷ a) p = go (leb (length (q .section .block)) labelWidth) (found-last a p)
+found-last (q ∷ a) p h after = go (leb (length (q .section .block)) labelWidth) after (found-last a p h)
   where
-    go : (t : Bool) → foundName (longName (a ++ (p ∷ []))) ≡ withName (foundName (longName a)) (length (p .section .block)) (p .boundary)
-        → foundName (cond t (longName (a ++ (p ∷ []))) (some (q .boundary)))
-        ≡ withName (foundName (cond t (longName a) (some (q .boundary)))) (length (p .section .block)) (p .boundary)
-    go true ih = ih
-    go false ih = refl
+    go : (t : Bool) → ((x : ℕ) → cond t (longName a) (some (q .boundary)) ≡ some x → x ≤ p .boundary)
+        → (((x : ℕ) → longName a ≡ some x → x ≤ p .boundary) → FoundWith p (longName a) (longName (a ++ (p ∷ []))))
+        → FoundWith p (cond t (longName a) (some (q .boundary))) (cond t (longName (a ++ (p ∷ []))) (some (q .boundary)))
+    go true after ih = ih after
+    go false after ih = found-stays (leb (length (p .section .block)) labelWidth) (q .boundary) (p .boundary) (after (q .boundary) refl)
 
 -- the entry, the name's length and the boundary line of a section of the code
 module _ {file : List ℕ} {p : Placed} {s : Section} (is : SectionOf file p s) where
@@ -112,17 +126,17 @@ Answered r writing old m out = (m ≡ entriesOf r) × (out ≡ entriesIn writing
 -- ---- the loop
 
 -- the first long name among the sections before the cursor is known, and their entries are in the output where they are written
-pub record Entered (limit : ℕ) (file old : List ℕ) (writing : Bool) (c : Cursor) (found : LongName) (out : List ℕ) : Type 0 where
+pub record Entered (limit : ℕ) (file old : List ℕ) (writing : Bool) (c : Cursor) (found : ℕ) (out : List ℕ) : Type 0 where
   pub here : LoopAt limit file c
   pub found-is : found ≡ foundName (longName (sections 0 (here .done)))
   pub holds : out ≡ putIf writing old 8 (entries (sections 0 (here .done)))
 
 pub entered-start : (limit : ℕ) (file old : List ℕ) (writing : Bool) (c : Cursor) → c ≡ startCursor → length file ≤ S.fileLimit
-    → Entered limit file old writing c Missing old
+    → Entered limit file old writing c noPlace old
 unfolding sections entries longName
 entered-start limit file old writing c e h = record { here = loop-start limit file c e h; found-is = refl; holds = put-if-none writing old 8 }
 
-module _ {limit : ℕ} {file old : List ℕ} {writing : Bool} {c : Cursor} {found : LongName} {out : List ℕ} (k : Entered limit file old writing c found out) where
+module _ {limit : ℕ} {file old : List ℕ} {writing : Bool} {c : Cursor} {found : ℕ} {out : List ℕ} (k : Entered limit file old writing c found out) where
   abbrev before : List Placed
   before = sections 0 (k .here .done)
 
@@ -132,7 +146,7 @@ module _ {limit : ℕ} {file old : List ℕ} {writing : Bool} {c : Cursor} {foun
   ended : {r : Counted} → r ≡ finishedBy found (c .count) → AllRead (k .here) → Answered (whole limit file) writing old r out
   ended e all =
       rw (all .1) (
-        e ∙ ap (λ (f : LongName). finishedBy f (c .count)) (k .found-is) ∙ ap (finishedBy (foundName (longName before))) (loop-count (k .here))
+        e ∙ ap (λ (f : ℕ). finishedBy f (c .count)) (k .found-is) ∙ ap (finishedBy (foundName (longName before))) (loop-count (k .here))
             ∙ ap (λ (ps : List Placed). finishedBy (foundName (longName ps)) (length ps)) (sym (all .2)),
         k .holds ∙ ap (λ (ps : List Placed). putIf writing old 8 (entries ps)) (sym (all .2)) ∙ entries-in writing (all .0) old,
       )
@@ -162,9 +176,24 @@ module _ {limit : ℕ} {file old : List ℕ} {writing : Bool} {c : Cursor} {foun
       pub entered-block : s .block .from ≤ s .block .to
       entered-block = more .is-section .block-low
 
-      -- where its entry is written, no name so far is too long, nor its own, and the file has so many sections
+      -- its boundary line is in the file, and after those of the sections before it
+      placed-in : (length (flat (k .here .done)) ≤ more .placed .boundary) × (more .placed .boundary ≤ S.fileLimit)
+      placed-in =
+          let done = k .here .done in
+          let f = subst (NextSays limit file done) is (says done (k .here .come)) in
+          let e = sym (boundary-is (more .is-section)) ∙ boundary-is (f .5) in
+          let n = ap length (flat-append done (f .0)) ∙ length-append (flat done) (flat (f .0)) in
+          let m = ap length (flat-append done (f .0 ++ (f .1 ∷ []))) ∙ length-append (flat done) (flat (f .0 ++ (f .1 ∷ []))) in
+          let l = ap length (flat-append (f .0) (f .1 ∷ [])) ∙ length-append (flat (f .0)) (flat (f .1 ∷ [])) in
+          let r = f .8 .ready in
+          (omega (arith, e, n), omega (arith, e, n, m, l, come-length limit file (f .8), r .at-in, r .short))
+
+      -- where its entry is written, no name so far is too long, nor with its own, and the file has so many sections
       fitting : (f : EntriesFit (whole limit file) old)
-          → (longName before ≡ none) × Labelled (more .placed) × (suc (length before) ≤ length (sections 0 (f .0)))
+          → (longName before ≡ none)
+          × (longName (before ++ (more .placed ∷ [])) ≡ none)
+          × Labelled (more .placed)
+          × (suc (length before) ≤ length (sections 0 (f .0)))
       fitting f =
           let p = more .placed in
           let b = loop-front (more .here) (f .0) (f .1) in
@@ -172,6 +201,7 @@ module _ {limit : ℕ} {file old : List ℕ} {writing : Bool} {c : Cursor} {foun
           let n = names-both (before ++ (p ∷ [])) (b .0) (ap longName (sym e) ∙ f .2) in
           let m = names-both before (p ∷ []) (n .0) in (
             m .0,
+            n .0,
             name-first p [] (m .1) .0,
             omega (arith, ap length e, length-append (before ++ (p ∷ [])) (b .0), length-append before (p ∷ [])),
           )
@@ -187,37 +217,38 @@ module _ {limit : ℕ} {file old : List ℕ} {writing : Bool} {c : Cursor} {foun
           let i = more .is-section in (
             i .block-low,
             i .block-high,
-            omega (arith, name-length i, g .1),
-            omega (arith, g .2, fits on .3, loop-count (k .here), entered-kept),
+            omega (arith, name-length i, g .2),
+            omega (arith, g .3, fits on .3, loop-count (k .here), entered-kept),
           )
 
-      entered-on : {f : LongName} {new : List ℕ} → f ≡ withName found (s .block .to - s .block .from) (s .from)
-          → new ≡ putIf writing old 8 (entries (sections 0 (more .here .done)))
-          → Entered limit file old writing d f new
-      entered-on e h =
+      -- the entry was written
+      pub entered-written : {new : List ℕ} → (writing ≡ true → EntriesFit (whole limit file) old) → writing ≡ true
+          → new ≡ sets out (8 + 64 * c .count) (entryFor file s)
+          → Entered limit file old writing d found new
+      entered-written fits on h =
+          let p = more .placed in
+          let g = fitting (fits on) in
+          let at : 8 + 64 * c .count ≡ 8 + length (entries before) = omega (arith, length-entries before (g .0), loop-count (k .here)) in
+          let with-entry : entries before ++ entryFor file s ≡ entries (sections 0 (more .here .done)) =
+          ap (λ (t : List ℕ). entries before ++ t) (entry-is (more .is-section)) ∙ sym (entries-last before p) ∙ ap entries (sym (more .sections-more)) in
+          record {
+            here = more .here;
+            found-is = k .found-is ∙ ap foundName (g .0 ∙ sym (g .1)) ∙ ap (λ (ps : List Placed). foundName (longName ps)) (sym (more .sections-more));
+            holds = put-if-more writing old 8 (entries before) (entryFor file s) on (k .holds) at h ∙ ap (putIf writing old 8) with-entry;
+          }
+
+      -- the section was only counted
+      pub entered-counted : {f : ℕ} → writing ≡ false → f ≡ withName found (s .block .to - s .block .from) (s .from)
+          → Entered limit file old writing d f out
+      entered-counted off e =
           let p = more .placed in
           let i = more .is-section in
           let l = foundName (longName before) in
+          let after : (q : ℕ) → longName before ≡ some q → q ≤ p .boundary = λ q e. omega (arith, long-name-from 0 (k .here .done) q e, placed-in .0) in
           record {
             here = more .here;
-            found-is = e ∙ ap (λ (f : LongName). withName f (s .block .to - s .block .from) (s .from)) (k .found-is)
+            found-is = e ∙ ap (λ (f : ℕ). withName f (s .block .to - s .block .from) (s .from)) (k .found-is)
                 ∙ ap (λ (n : ℕ). withName l n (s .from)) (name-length i) ∙ ap (withName l (length (p .section .block))) (boundary-is i)
-                ∙ sym (found-last before p) ∙ ap (λ (ps : List Placed). foundName (longName ps)) (sym (more .sections-more));
-            holds = h;
+                ∙ sym (found-last before p (omega (arith, placed-in .1)) after) ∙ ap (λ (ps : List Placed). foundName (longName ps)) (sym (more .sections-more));
+            holds = k .holds ∙ put-if-off writing old 8 (entries before) (entries (sections 0 (more .here .done))) off;
           }
-
-      -- the entry was written, or the section only counted
-      pub entered-written : {f : LongName} {new : List ℕ} → (writing ≡ true → EntriesFit (whole limit file) old) → writing ≡ true
-          → f ≡ withName found (s .block .to - s .block .from) (s .from)
-          → new ≡ sets out (8 + 64 * c .count) (entryFor file s)
-          → Entered limit file old writing d f new
-      entered-written fits on e h =
-          let p = more .placed in
-          let at : 8 + 64 * c .count ≡ 8 + length (entries before) = omega (arith, length-entries before (fitting (fits on) .0), loop-count (k .here)) in
-          let with-entry : entries before ++ entryFor file s ≡ entries (sections 0 (more .here .done)) =
-          ap (λ (t : List ℕ). entries before ++ t) (entry-is (more .is-section)) ∙ sym (entries-last before p) ∙ ap entries (sym (more .sections-more)) in
-          entered-on e (put-if-more writing old 8 (entries before) (entryFor file s) on (k .holds) at h ∙ ap (putIf writing old 8) with-entry)
-
-      pub entered-counted : {f : LongName} → writing ≡ false → f ≡ withName found (s .block .to - s .block .from) (s .from)
-          → Entered limit file old writing d f out
-      entered-counted off e = entered-on e (k .holds ∙ put-if-off writing old 8 (entries before) (entries (sections 0 (more .here .done))) off)

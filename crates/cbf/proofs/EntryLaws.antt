@@ -2,10 +2,10 @@
 use mathlib.Core.Path.{_≡_, refl, sym, ap, _∙_}
 use mathlib.Core.List.{List, [], _∷_, _++_}
 use Prim.Native.Nat.{ℕ, zero, suc, _+_, _*_, _-_, _/_, _%_, _≤_, _<_}
-use native.Mathlib.Nat.{add-zero, sub-zero}
+use native.Mathlib.Nat.{add-zero, zero-add, suc-add, sub-zero}
 use native.Mathlib.Omega.{arith}
-use lib.ListN.{length, length-append, set, take, drop}
-use lib.Seq.{sets, slice, length-sets, length-slice}
+use lib.ListN.{length, length-append, set}
+use lib.Seq.{sets, length-sets}
 use Rattle.cbf_pixels.specs.Octets.{number, octets, no-octet, octet}
 use Rattle.cbf_pixels.specs.declared.ElementType.{ElementType}
 use Rattle.cbf_pixels.specs.declared.Compression.{Compression}
@@ -13,8 +13,7 @@ use Rattle.cbf_pixels.proofs.Numbers.{length-octets, octets-number}
 use Rattle.cbf_format.specs.declared.Encoding.{Encoding}
 use Rattle.cbf_format.specs.Catalogue.{labelWidth, compressionNumber, typeNumber, encodingNumber, zeros, label, entry}
 use Rattle.cbf.specs.Outcomes.{fourNumbers}
-use Rattle.cbf.proofs.Puts.{sets-append}
-use Rattle.cbf_format.proofs.Slices.{slice-part}
+use Rattle.cbf.proofs.Puts.{sets-append, sets-over}
 
 -- ---- octets stored from the first on
 
@@ -54,6 +53,11 @@ length-zeros n = ap length (zeros-octets n) ∙ length-octets n 0
 pub length-four : (a b c d : ℕ) → length (fourNumbers a b c d) ≡ 16
 length-four a b c d = simp (length-append, length-octets)
 
+zeros-add : (a b : ℕ) → zeros (a + b) ≡ zeros a ++ zeros b
+unfolding zeros
+zeros-add zero b = rw zero-add
+zeros-add (suc a) b = rw suc-add (ap (λ (l : List ℕ). 0 ∷ l) (zeros-add a b))
+
 -- one text is written after another, with their lengths as the code has them
 pub both-written : (old : List ℕ) (at : ℕ) (a b : List ℕ) (n : ℕ) {m r s : ℕ} {mid new : List ℕ}
     → length a ≡ m → (r ≡ at + m) × (mid ≡ sets old at a) → (s ≡ r + n) × (new ≡ sets mid r b)
@@ -72,12 +76,13 @@ octets-three a b c h k l =
     let e : a + 256 * b + 65536 * c ≡ number os = omega arith in
     ap (octets 4) e ∙ octets-number (octet h (octet k (octet l (octet (omega arith) no-octet))))
 
--- with the name as the code takes it from the file
-pub label-pieces : (file : List ℕ) (from to : ℕ) → from ≤ to → to ≤ length file
-    → label (slice from to file) ≡ take (to - from) (drop from file) ++ zeros (labelWidth - (to - from))
-label-pieces file from to h k =
-    ap (λ (n : ℕ). slice from to file ++ zeros (labelWidth - n)) (length-slice from to file k)
-    ∙ ap (λ (l : List ℕ). l ++ zeros (labelWidth - (to - from))) (slice-part file from to h k)
+-- a name over the zeros of a label
+pub label-over : (old name : List ℕ) (at : ℕ) → length name ≤ labelWidth → sets (sets old at (zeros labelWidth)) at name ≡ sets old at (label name)
+label-over old name at h =
+    let e : labelWidth ≡ length name + (labelWidth - length name) = omega arith in
+    ap (λ (k : ℕ). sets (sets old at (zeros k)) at name) e
+    ∙ ap (λ (l : List ℕ). sets (sets old at l) at name) (zeros-add (length name) (labelWidth - length name))
+    ∙ sets-over old (zeros (length name)) name (zeros (labelWidth - length name)) at (length-zeros (length name))
 
 module _ (at size elements : ℕ) (c : Compression) (t : ElementType) (e : Encoding) (id fastest second third : ℕ) (name : List ℕ) where
   pub entry-pieces : (kinds : ℕ) → octets 4 kinds ≡ compressionNumber c ∷ typeNumber t ∷ encodingNumber e ∷ 0 ∷ []

@@ -1,12 +1,12 @@
--- Runs of stores: one that follows another, a store that comes before or after one, and a text that is written or only measured. Assumes nothing.
+-- Runs of stores: one that follows another or is put over it, a store that comes before or after one, and a text that is written or only measured. Assumes nothing.
 use mathlib.Core.Path.{_≡_, refl, ap, _∙_, sym}
 use mathlib.Core.Bool.{Bool, true, false}
 use mathlib.Core.List.{List, [], _∷_, _++_}
-use Prim.Native.Nat.{ℕ, suc, _+_, _<_}
+use Prim.Native.Nat.{ℕ, suc, _+_, _≤_, _<_}
 use native.Mathlib.Nat.{add-zero, add-suc, suc-add}
 use native.Mathlib.Omega.{arith}
-use lib.ListN.{length, length-append, set, take, getD}
-use lib.Seq.{sets, length-sets, set-comm, take-suc, length-take-le}
+use lib.ListN.{length, length-append, length-drop, set, take, drop, getD}
+use lib.Seq.{sets, length-sets, set-set, set-comm, take-suc, take-add, take-all, length-take-le, getD-drop}
 
 -- stores keep the length, so two lists that stores make equal are as long as each other
 pub puts-length : (new old a b : List ℕ) (at : ℕ) → sets new at a ≡ sets old at b → length new ≡ length old
@@ -43,6 +43,55 @@ sets-take old s at i h =
     ap (λ (k : ℕ). set (sets old at (take i s)) (at + k) (getD s i 0)) (sym e)
     ∙ sets-append old (take i s) (getD s i 0 ∷ []) at
     ∙ ap (λ (l : List ℕ). sets old at l) (sym (take-suc s i 0 h))
+
+-- and of one that copies the part of s from i on
+pub sets-part : (old s : List ℕ) (at i j : ℕ) → i + j < length s → set (sets old at (take j (drop i s))) (at + j) (getD s (i + j) 0) ≡ sets old at (take (suc j) (drop i s))
+sets-part old s at i j h =
+    ap (λ (x : ℕ). set (sets old at (take j (drop i s))) (at + j) x) (sym (getD-drop i s j 0)) ∙ sets-take old (drop i s) at j (omega (arith, length-drop i s))
+
+-- the first i elements of s are copied to old from at on
+pub record Copied (old : List ℕ) (at : ℕ) (s out : List ℕ) (i : ℕ) : Type 0 where
+  pub within : i ≤ length s
+  pub holds : out ≡ sets old at (take i s)
+
+module _ {old : List ℕ} {at : ℕ} {s out : List ℕ} {i : ℕ} (c : Copied old at s out i) where
+  pub copied-length : length out ≡ length old
+  copied-length = ap length (c .holds) ∙ length-sets old at (take i s)
+
+  -- and n more
+  pub copied-more : (n : ℕ) {r : ℕ} {new : List ℕ} → i + n ≤ length s → r ≡ i + n → new ≡ sets out (at + i) (take n (drop i s)) → Copied old at s new r
+  copied-more n {r} {new} h p q =
+      let l : i ≡ length (take i s) = sym (length-take-le i s (c .within)) in
+      record {
+        within = omega arith;
+        holds = q ∙ ap (λ (o : List ℕ). sets o (at + i) (take n (drop i s))) (c .holds)
+            ∙ ap (λ (k : ℕ). sets (sets old at (take i s)) (at + k) (take n (drop i s))) l
+            ∙ sets-append old (take i s) (take n (drop i s)) at ∙ ap (sets old at) (sym (take-add i n s)) ∙ ap (λ (k : ℕ). sets old at (take k s)) (sym p);
+      }
+
+  -- out and i under other names
+  pub copied-as : {new : List ℕ} {k : ℕ} → new ≡ out → k ≡ i → Copied old at s new k
+  copied-as p q = record { within = omega (arith, c .within); holds = p ∙ c .holds ∙ ap (λ (k : ℕ). sets old at (take k s)) (sym q) }
+
+  pub copied-all : length s ≤ i → out ≡ sets old at s
+  copied-all h = c .holds ∙ ap (sets old at) (take-all i s h)
+
+-- ---- a run over another
+
+-- an element before a run may be stored before it
+set-before : (old a : List ℕ) (i j x : ℕ) → i < j → set (sets old j a) i x ≡ sets (set old i x) j a
+set-before old [] i j x h = refl
+set-before old (y ∷ a) i j x h =
+    set-before (set old j y) a i (suc j) x (omega arith) ∙ ap (λ (l : List ℕ). sets l (suc j) a) (set-comm old j i y x (λ e. omega arith))
+
+-- what is stored over the first elements of a run takes their place
+pub sets-over : (old a b c : List ℕ) (at : ℕ) → length a ≡ length b → sets (sets old at (a ++ c)) at b ≡ sets old at (b ++ c)
+sets-over old [] [] c at e = refl
+sets-over old [] (y ∷ b) c at e = absurd (omega arith)
+sets-over old (x ∷ a) [] c at e = absurd (omega arith)
+sets-over old (x ∷ a) (y ∷ b) c at e =
+    ap (λ (l : List ℕ). sets l (suc at) b) (set-before (set old at x) (a ++ c) at (suc at) y (omega arith) ∙ ap (λ (l : List ℕ). sets l (suc at) (a ++ c)) (set-set old at x y))
+    ∙ sets-over (set old at y) a b c (suc at) (omega arith)
 
 -- ---- a text that is written, or only measured
 

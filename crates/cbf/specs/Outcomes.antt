@@ -4,7 +4,7 @@ use mathlib.Core.Option.{Option, none, some}
 use mathlib.Core.Bool.{Bool, true, false, cond}
 use mathlib.Core.List.{List, [], _∷_, _++_}
 use Prim.Native.Nat.{ℕ, _+_, _*_, _≤_}
-use lib.Dec.{leb}
+use lib.Dec.{leb, ltb, eqb}
 use lib.ListN.{length, drop}
 use lib.Seq.{slice, sets}
 use Rattle.cbf_walk.specs.Reading.{Item, Reading, refused, good}
@@ -16,8 +16,6 @@ use Rattle.cbf_format.specs.Text.{bytes}
 use Rattle.cbf_format.specs.Listing.{printed, spaced, sections, sectionText, listing}
 use Rattle.cbf_format.specs.Catalogue.{labelWidth, entry, entries, catalogue, longName}
 use Rattle.cbf_reader.specs.declared.step.Section.{Section}
-use Rattle.cbf.specs.declared.entries.LongName.{LongName}
-use Rattle.cbf.specs.declared.entries.LongName.the-variants.{Missing, At}
 use Rattle.cbf.specs.declared.entries.Counted.{Counted}
 use Rattle.cbf.specs.declared.entries.Counted.the-variants as C
 use Rattle.cbf.specs.declared.lines.Measured.{Measured}
@@ -82,18 +80,20 @@ entryFor file s =
 abbrev pub fourNumbers : ℕ → ℕ → ℕ → ℕ → List ℕ
 fourNumbers a b c d = octets 4 a ++ (octets 4 b ++ (octets 4 c ++ octets 4 d))
 
--- the first section with a long name, with one section more: its name's length and its boundary line
-abbrev pub withName : LongName → ℕ → ℕ → LongName
-withName (At p) n from = At p
-withName Missing n from = cond (leb n labelWidth) Missing (At from)
+-- the place that stands for no section: no file has it
+abbrev pub noPlace : ℕ
+noPlace = 1073741825
 
-abbrev pub finishedBy : LongName → ℕ → Counted
-finishedBy (At p) count = C.LongName p
-finishedBy Missing count = C.Count count
+-- the place of the first section with a long name, with one section more: its name's length and its boundary line
+abbrev pub withName : ℕ → ℕ → ℕ → ℕ
+withName found n from = cond (leb n labelWidth) found (cond (ltb found from) found from)
 
-abbrev pub foundName : Option ℕ → LongName
-foundName none = Missing
-foundName (some p) = At p
+abbrev pub finishedBy : ℕ → ℕ → Counted
+finishedBy found count = cond (eqb found noPlace) (C.Count count) (C.LongName found)
+
+abbrev pub foundName : Option ℕ → ℕ
+foundName none = noPlace
+foundName (some p) = p
 
 -- the file's refusal, its first long name, or the number of its sections
 abbrev pub entriesOf : Reading (Item F.State S.Section) → Counted

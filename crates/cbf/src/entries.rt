@@ -22,36 +22,28 @@ pub enum Counted {
     Count(usize),
 }
 
-// What was found of long names so far.
-pub enum LongName {
-    Missing,
-    At(usize),
-}
+// The place that stands for none: no file has it.
+const NO_PLACE: usize = 1073741825;
 
-// The first section with a long name, with one section more, whose boundary line is at from.
-fn with_name(found: LongName, block: Range, from: usize) -> LongName
+// The place of the first section with a long name, with one section more, whose boundary line is at from.
+fn with_name(found: usize, block: Range, from: usize) -> usize
     requires { ⌜ block .from ≤ block .to ⌝ }
     ensures { λ r. ⌜ r ≡ withName found (block .to - block .from) from ⌝ }
 {
-    match found {
-        LongName::At(p) => LongName::At(p),
-        LongName::Missing => {
-            if LABEL_WIDTH < block.to - block.from {
-                return LongName::At(from);
-            }
-            LongName::Missing
-        }
+    if block.to - block.from <= LABEL_WIDTH {
+        return found;
     }
+    if found < from { found } else { from }
 }
 
 // What the pass found.
-fn finished(found: LongName, count: usize) -> Counted
+fn finished(found: usize, count: usize) -> Counted
     ensures { λ r. ⌜ r ≡ finishedBy found count ⌝ }
 {
-    match found {
-        LongName::At(p) => Counted::LongName(p),
-        LongName::Missing => Counted::Count(count),
+    if found == NO_PLACE {
+        return Counted::Count(count);
     }
+    Counted::LongName(found)
 }
 
 // The entries from the first one on; writing says whether they go to out.
@@ -61,7 +53,7 @@ fn entries_from(file: &[u8], limit: usize, out: &mut [u8], writing: bool, c: Cur
     ensures { λ _. ⌜ now (out .exit) ≡ entriesIn writing (whole limit (now (file .entry))) (now (out .entry)) ⌝ }
 {
     let mut cursor = c;
-    let mut found = LongName::Missing;
+    let mut found = NO_PLACE;
     while cursor.at < file.len() {
         let next = cbf_reader::next_section(file, cursor, limit);
         match next {
@@ -69,9 +61,10 @@ fn entries_from(file: &[u8], limit: usize, out: &mut [u8], writing: bool, c: Cur
             NextSection::End => return finished(found, cursor.count),
             NextSection::Found(section, d) => {
                 let block = section.block;
-                found = with_name(found, block, section.from);
                 if writing {
                     entry::put_entry(file, section, out, 8 + 64 * cursor.count);
+                } else {
+                    found = with_name(found, block, section.from);
                 }
                 cursor = d;
             }

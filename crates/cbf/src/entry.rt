@@ -58,14 +58,15 @@ fn put_four(out: &mut [u8], at: usize, a: u64, b: u64, c: u64, d: u64) -> usize
     little::put_little(out, after_c, 4, d)
 }
 
-// Writes a name that is no longer than the label, and zeros after it.
+// Writes a name that is no longer than the label, over zeros.
 fn put_label(file: &[u8], from: usize, to: usize, out: &mut [u8], at: usize) -> usize
     requires { ⌜ (from ≤ to) × (to ≤ length (now file)) × (to - from ≤ labelWidth) × (at + labelWidth ≤ length (now out)) ⌝ }
     ensures { λ r. ⌜ r ≡ at + labelWidth ⌝ }
     ensures { λ _. ⌜ now (out .exit) ≡ sets (now (out .entry)) at (label (slice from to (now (file .entry)))) ⌝ }
 {
-    let after_name = put::put_text(out, at, &file[from..to]);
-    little::put_zeros(out, after_name, LABEL_WIDTH - (to - from))
+    let end = little::put_zeros(out, at, LABEL_WIDTH);
+    put::put_short(out, at, &file[from..to]);
+    end
 }
 
 // The three numbers in one octet each and the zero after them, as one number of 32 bits.

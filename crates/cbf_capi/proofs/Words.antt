@@ -1,4 +1,4 @@
--- The word that a C call returns holds the number and the value apart, and fits. Assumes nothing.
+-- The word that a C call returns holds the number and the value apart, and fits; and where the octets of a section start. Assumes nothing.
 use Prim.Native.Nat.{ℕ, _+_, _*_, _/_, _%_, _^_, _<_, _≤_}
 use native.Mathlib.Omega.{arith}
 use mathlib.Core.Path.{_≡_, refl, ap, ap₂, _∙_}
@@ -21,16 +21,23 @@ use Rattle.cbf_pixels.specs.Answers.{Outcome, gives, refuses, isSome, pixelLimi
 use Rattle.cbf_walk.specs.Reading.{Item, Reading, good}
 use Rattle.cbf_walk.specs.Reading as R
 use Rattle.cbf_format.specs.Lines.{lineLimit}
-use Rattle.cbf_format.specs.Sections.{Section}
+use Rattle.cbf_format.specs.declared.Encoding.{Encoding}
+use Rattle.cbf_format.specs.declared.Encoding.the-variants.{Binary, Base64}
+use Rattle.cbf_format.specs.Sections.{Section, fileLimit}
 use Rattle.cbf_format.specs.Files.{State, Tree, read}
-use Rattle.cbf_format.specs.Listing.{sections, listing}
+use Rattle.cbf_format.specs.Listing.{Placed, sections, numbered, position, listing}
 use Rattle.cbf_format.specs.Catalogue.{catalogue, longName}
 use Rattle.cbf_format.proofs.FileLaws.{accepted}
 use Rattle.cbf_format.proofs.PlaceLaws.{read-place, read-limit, long-name-place}
-use Rattle.cbf_format.proofs.ListingLaws.{listing-short}
+use Rattle.cbf_format.proofs.ListingLaws.{few-sections, listing-short}
+use Rattle.cbf_format.proofs.OctetLaws.{DataAt, data-at, position-in, binary-octets, octet-count, few-elements}
+use Rattle.cbf_sections.specs.declared.asked.OctetsPlace.{OctetsPlace}
+use Rattle.cbf_sections.specs.declared.asked.OctetsPlace.the-variants as O
+use Rattle.cbf_sections.specs.SectionCalls.{readOutcome, asked, askedOf, octetsFor, octetsOutcome, placeFor, placeOf, octetsPlace, frameOf, frameOutcome}
+use Rattle.cbf_sections.proofs.SectionCallLaws.{placeSays, place-says}
 use Rattle.cbf.specs.Outcomes.{roomFor, listOutcome, cataloguedOr, catalogueOutcome}
 use Rattle.cbf.proofs.CatalogueLaws.{catalogue-short}
-use Rattle.cbf_capi.specs.Words.{packCall, unpackCall, unpackedBy, word}
+use Rattle.cbf_capi.specs.Words.{packCall, unpackCall, unpackedBy, startFor, startOf, octetsStart, word}
 
 -- document 01's number, 0 for none, and the place or the length
 abbrev pub numberOf : Outcome → ℕ
@@ -53,11 +60,15 @@ halves (refuses number place) h k = record { upper = omega arith; lower = omega 
 refused : (number : ℕ) → number < 2 ^ 32 → Halves (refuses number 0)
 refused number h = halves (refuses number 0) h (omega arith)
 
+-- one answer where the test holds, else another
+picked : (b : Bool) (x y : Outcome) → Halves y → (b ≡ true → Halves x) → Halves (pick b x y)
+unfolding pick
+picked true x y h f = f refl
+picked false x y h f = h
+
 -- a length where the test holds, else a refusal
 tested : (b : Bool) (x : Outcome) (number : ℕ) → number < 2 ^ 32 → (b ≡ true → Halves x) → Halves (pick b x (refuses number 0))
-unfolding pick
-tested true x number h f = f refl
-tested false x number h f = refused number h
+tested b x number h f = picked b x (refuses number 0) (refused number h) f
 
 given : (n limit : ℕ) → limit < 2 ^ 32 → leb n limit ≡ true → Halves (gives n)
 given n limit h e = let l = leb-true n limit e in halves (gives n) (omega arith) (omega arith)
@@ -114,6 +125,75 @@ catalogue-halves file room = go (read lineLimit file) refl
     go : (r : Reading (Item State Section)) → read lineLimit file ≡ r → Halves (catalogueOutcome r room)
     go (R.refused k p) e = unread file k p e
     go (good its) e = named its e (longName (sections 0 its)) refl
+
+pub count-halves : (file : List ℕ) → Halves (readOutcome (read lineLimit file))
+unfolding readOutcome
+count-halves file = go (read lineLimit file) refl
+  where
+    go : (r : Reading (Item State Section)) → read lineLimit file ≡ r → Halves (readOutcome r)
+    go (R.refused k p) e = unread file k p e
+    go (good its) e = halves (gives (length (sections 0 its))) (omega arith) (omega (arith, few-sections lineLimit file its e))
+
+-- what is asked of a section: reading's refusal, 12, or what holds of each section of the file
+asked-halves : (file : List ℕ) (n : ℕ) (f : Placed → Outcome) → ((p : Placed) → DataAt lineLimit file p → length file ≤ fileLimit → Halves (f p))
+    → Halves (asked (read lineLimit file) n f)
+asked-halves file n f each = go (read lineLimit file) refl
+  where
+    go : (r : Reading (Item State Section)) → read lineLimit file ≡ r → Halves (asked r n f)
+    go (R.refused k p) e = unread file k p e
+    go (good its) e = by (numbered n (sections 0 its)) refl
+      where
+        by : (o : Option Placed) → numbered n (sections 0 its) ≡ o → Halves (askedOf (good its) o f)
+        by none q = refused 12 (omega arith)
+        by (some p) q = each p (data-at lineLimit n file its p e q) (accepted lineLimit file its e .not-long)
+
+pub octets-halves : (file : List ℕ) (n : ℕ) → Halves (octetsOutcome (read lineLimit file) n)
+unfolding octetsOutcome
+octets-halves file n = asked-halves file n _ (λ p d l. go p d l (p .section .description .encoding) refl)
+  where
+    go : (p : Placed) → DataAt lineLimit file p → length file ≤ fileLimit → (e : Encoding) → p .section .description .encoding ≡ e
+        → Halves (octetsFor e (p .section .octets))
+    go p d l Binary q = halves (gives (length (p .section .octets))) (omega arith) (omega (arith, octet-count d, binary-octets d q .1))
+    go p d l Base64 q = refused 18 (omega arith)
+
+pub frame-halves : (file : List ℕ) (n room : ℕ) → Halves (frameOutcome (read lineLimit file) n room)
+unfolding frameOutcome
+frame-halves file n room =
+    asked-halves file n _ (λ p d l.
+    picked (isSome (frameOf p)) _ _ (halves (refuses 13 (position p)) (omega arith) (omega (arith, position-in d))) (λ a.
+    tested (leb (p .section .description .elements) room) _ 15 (omega arith) (λ b.
+    halves (gives (p .section .description .elements)) (omega arith) (omega (arith, few-elements d)))))
+
+-- ---- where the octets start
+
+abbrev pub startAt : OctetsPlace → ℕ → ℕ
+startAt (O.Refused r) old = old
+startAt (O.At first size) old = first
+
+start-at : (r : Reading (Item State Section)) (n old : ℕ) → startAt (octetsPlace r n) old ≡ octetsStart r n old
+unfolding octetsPlace octetsStart
+start-at (R.refused k p) n old = refl
+start-at (good its) n old = go (numbered n (sections 0 its))
+  where
+    for : (p : Placed) (e : Encoding) → startAt (placeFor e (position p) (p .section .description .size)) old ≡ startFor e (position p) old
+    for p Binary = refl
+    for p Base64 = refl
+
+    go : (o : Option Placed) → startAt (placeOf o) old ≡ startOf o old
+    go none = refl
+    go (some p) = for p (p .section .description .encoding)
+
+-- the place that the code found, and what the call then answers
+module _ (file : List ℕ) (n : ℕ) {x : OctetsPlace} (is : x ≡ octetsPlace (read lineLimit file) n) where
+  place-outcome : placeSays x ≡ octetsOutcome (read lineLimit file) n
+  place-outcome = ap placeSays is ∙ place-says lineLimit n file .0
+
+  pub place-halves : Halves (placeSays x)
+  place-halves = rw place-outcome (octets-halves file n)
+
+  pub octets-say : (old : ℕ) {r new : ℕ} → r ≡ word (placeSays x) → new ≡ startAt x old
+      → (r ≡ word (octetsOutcome (read lineLimit file) n)) × (new ≡ octetsStart (read lineLimit file) n old)
+  octets-say old a b = (a ∙ ap word place-outcome, b ∙ ap (λ (y : OctetsPlace). startAt y old) is ∙ start-at (read lineLimit file) n old)
 
 -- ---- what the calls answer, for the numbers of a type and of a compression
 

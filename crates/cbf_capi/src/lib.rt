@@ -1,5 +1,6 @@
 // The library for C, and whatever calls C: include/cbf.h says what a caller owes. Each function returns a word: the upper
 // 32 bits are the refusal number, 0 for none; the lower 32 the place of a refusal, or the length of the answer.
+use cbf::OctetsPlace;
 use cbf_format::LINE_LIMIT;
 use cbf_pixels::Answer;
 use cbf_pixels::Compression;
@@ -13,7 +14,8 @@ ghost use Rattle.cbf_format.specs.Lines.{lineLimit};
 ghost use Rattle.cbf_format.specs.Files.{read};
 ghost use Rattle.cbf_format.specs.Listing.{listing};
 ghost use Rattle.cbf.specs.Outcomes.{listOutcome, catalogueOutcome, catalogueText};
-ghost use Rattle.cbf_capi.specs.Words.{element, compressed, packCall, unpackCall, unpackedBy, word};
+ghost use Rattle.cbf_sections.specs.SectionCalls.{readOutcome, octetsOutcome, frameOutcome, framePixels};
+ghost use Rattle.cbf_capi.specs.Words.{element, compressed, packCall, unpackCall, unpackedBy, octetsStart, word};
 
 pub enum Element {
     Unknown,
@@ -102,6 +104,39 @@ pub extern "C" fn cbf_unpack_octets(
             Compressed::Known(by) => word_of(cbf_pixels::unpack(by, kind, octets, count, pixels)),
         },
     }
+}
+
+// Counts the sections of a file.
+#[no_mangle]
+pub extern "C" fn cbf_count(file: &[u8]) -> u64
+    ensures answer { λ r. ⌜ r ≡ word (readOutcome (read lineLimit (now (file .entry)))) ⌝ }
+{
+    word_of(cbf::read(file, LINE_LIMIT))
+}
+
+// Tells where the octets of a BINARY section are.
+#[no_mangle]
+pub extern "C" fn cbf_octets(file: &[u8], section: usize, start: &mut u64) -> u64
+    ensures answer { λ r. ⌜ r ≡ word (octetsOutcome (read lineLimit (now (file .entry))) section) ⌝ }
+    ensures start { λ _. ⌜ now (start .exit) ≡ octetsStart (read lineLimit (now (file .entry))) section (now (start .entry)) ⌝ }
+{
+    let place = cbf::octets_at(file, LINE_LIMIT, section);
+    match place {
+        OctetsPlace::Refused(r) => word_of(Answer::Refused(r)),
+        OctetsPlace::At(first, size) => {
+            *start = first as u64;
+            word_of(Answer::Length(size))
+        }
+    }
+}
+
+// Unpacks the frame of a section.
+#[no_mangle]
+pub extern "C" fn cbf_unpack(file: &[u8], section: usize, pixels: &mut [i64]) -> u64
+    ensures answer { λ r. ⌜ r ≡ word (frameOutcome (read lineLimit (now (file .entry))) section (length (now (pixels .entry)))) ⌝ }
+    ensures output { λ _. ⌜ now (pixels .exit) ≡ written (frameOutcome (read lineLimit (now (file .entry))) section (length (now (pixels .entry)))) (framePixels (read lineLimit (now (file .entry))) section) (now (pixels .entry)) ⌝ }
+{
+    word_of(cbf::unpack(file, LINE_LIMIT, section, pixels))
 }
 
 // Writes the listing of a file.

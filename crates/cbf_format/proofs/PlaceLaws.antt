@@ -352,7 +352,7 @@ read-limit limit file k p e = go (leb (length file) fileLimit) refl
 
 -- ---- the section of a long name
 
-long-name-from : (at : ℕ) (its : Tree) (b : ℕ) → longName (sections at its) ≡ some b → b ≤ at + length (flat its)
+pub long-name-from : (at : ℕ) (its : Tree) (b : ℕ) → longName (sections at its) ≡ some b → b ≤ at + length (flat its)
 unfolding longName sections flat
 long-name-from at [] b e = let z : _≡_ {A = ℕ} 0 1 = cc in absurd (omega arith)
 long-name-from at (it ∷ its) b e = go (λ q. omega (arith, long-name-from (at + length (it .bytes)) its b q, length-append (it .bytes) (flat its))) (it .info) e

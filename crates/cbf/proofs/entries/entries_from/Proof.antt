@@ -50,31 +50,31 @@ returns-2 c =
 enum-known-next-2 : tie.Need-enum-known-next-2 Inv-loop μ-loop
 enum-known-next-2 c = search needs
 
-with-name-requires : tie.Need-with-name-requires Inv-loop μ-loop
-with-name-requires c κs =
-    let t = c .before .before in
-    entered-block (t .before .before .before .before .before .loop .inv) (t .before .before .next-section .ensures) (t .next2 .given .1)
-
 mul-put-entry : tie.Need-mul-put-entry Inv-loop μ-loop
-mul-put-entry c = omega (arith, c .before .before .before .before .before .before .before .before .before .before .before .loop .inv .here .come .ready .few)
+mul-put-entry c = omega (arith, c .before .before .before .before .before .before .before .before .before .before .loop .inv .here .come .ready .few)
 
 add-put-entry : tie.Need-add-put-entry Inv-loop μ-loop
-add-put-entry c = omega (arith, c .before .before .before .before .before .before .before .before .before .before .before .loop .inv .here .come .ready .few)
+add-put-entry c = omega (arith, c .before .before .before .before .before .before .before .before .before .before .loop .inv .here .come .ready .few)
 
 put-entry-requires : tie.Need-put-entry-requires Inv-loop μ-loop
 put-entry-requires c κs =
-    let t = c .before .before .before .before .before .before in
+    let t = c .before .before .before .before .before in
     entered-room (t .before .before .before .before .before .loop .inv) (t .before .before .next-section .ensures) (t .next2 .given .1) (t .before .before .before .before .before .before .before .before .pre .3) (c .before .before .if2 .taken)
+
+with-name-requires : tie.Need-with-name-requires Inv-loop μ-loop
+with-name-requires c κs =
+    let t = c .before .before .before in
+    entered-block (t .before .before .before .before .before .loop .inv) (t .before .before .next-section .ensures) (t .next2 .given .1)
 
 loop-less : tie.Need-loop-less Inv-loop μ-loop
 loop-less c =
-    let t = c .before .before .before .before .before .before .before .before .before in
+    let t = c .before .before .before .before .before .before .before .before in
     loop-onward (t .before .before .before .before .before .loop .inv .here) (t .before .before .next-section .ensures) (t .next2 .given .1) (t .before .before .before .if1 .taken)
 
 loop-again : tie.Need-loop-again Inv-loop μ-loop
 loop-again c =
-    let t = c .before .before .before .before .before .before .before .before .before in
-    entered-written (t .before .before .before .before .before .loop .inv) (t .before .before .next-section .ensures) (t .next2 .given .1) (t .before .before .before .before .before .before .before .before .pre .3) (c .before .before .before .before .before .if2 .taken) (c .before .before .before .before .before .before .with-name .ensures) (c .before .before .put-entry .ensures .1)
+    let t = c .before .before .before .before .before .before .before .before in
+    entered-written (t .before .before .before .before .before .loop .inv) (t .before .before .next-section .ensures) (t .next2 .given .1) (t .before .before .before .before .before .before .before .before .pre .3) (c .before .before .before .before .before .if2 .taken) (c .before .before .put-entry .ensures .1)
 
 loop-less-2 : tie.Need-loop-less-2 Inv-loop μ-loop
 loop-less-2 c =
@@ -84,7 +84,7 @@ loop-less-2 c =
 loop-again-2 : tie.Need-loop-again-2 Inv-loop μ-loop
 loop-again-2 c =
     let t = c .before .before .before .before in
-    entered-counted (t .before .before .before .before .before .loop .inv) (t .before .before .next-section .ensures) (t .next2 .given .1) (c .if2 .left) (c .before .with-name .ensures)
+    entered-counted (t .before .before .before .before .before .loop .inv) (t .before .before .next-section .ensures) (t .next2 .given .1) (c .before .if2 .left) (c .with-name .ensures)
 
 finished-requires-2 : tie.Need-finished-requires-2 Inv-loop μ-loop
 finished-requires-2 c κs = search needs
@@ -111,10 +111,10 @@ entries-from-spec =
     same-length-2
     returns-2
     enum-known-next-2
-    with-name-requires
     mul-put-entry
     add-put-entry
     put-entry-requires
+    with-name-requires
     loop-less
     loop-again
     loop-less-2

@@ -1,19 +1,14 @@
 -- `finished` meets its contract: each arm is one case of `finishedBy`. Assumes nothing.
-use borrow.Author.Needs.{needs}
+use borrow.Author.Tests.{eq-eqb, ne-eqb}
+use Rattle.cbf.specs.Outcomes.{noPlace}
 use Rattle.cbf.proofs.entries.finished.Statement.{statement}
 use Rattle.cbf.proofs.entries.finished.Tie as tie
 
-enum-known-found : tie.Need-enum-known-found
-enum-known-found c = search needs
-
-enum-told : tie.Need-enum-told
-enum-told c = search needs
-
 returns : tie.Need-returns
-returns c = rw (c .before .found .given .1)
+returns c = rw (eq-eqb (c .before .args .found) noPlace (c .if1 .taken))
 
 returns-2 : tie.Need-returns-2
-returns-2 c = rw (c .enum-told .given .1)
+returns-2 c = rw (ne-eqb (c .before .args .found) noPlace (c .if1 .left))
 
 pub finished-spec : {M : Type 1} → statement M
-finished-spec = tie.close (tie.spec enum-known-found enum-told returns returns-2)
+finished-spec = tie.close (tie.spec returns returns-2)

@@ -4,7 +4,6 @@ use Prim.Native.Nat.{ℕ, _≤_}
 use native.Mathlib.Omega.{arith}
 use borrow.Author.Needs.{needs}
 use denote.Ref.{now}
-use Rattle.cbf_format.specs.Files as F
 use Rattle.cbf.proofs.CatalogueLaws.{few-counted, catalogue-refused, catalogue-long, catalogue-no-room, catalogue-fits, catalogue-has-room}
 use Rattle.cbf.proofs.write_catalogue.catalogue.Statement.{statement}
 use Rattle.cbf.proofs.write_catalogue.catalogue.Tie as tie
@@ -43,7 +42,7 @@ returns c =
     let m = b .before .before .before .before in
     let a = m .before .before .before .before .args in
     let is = sym (b .counted3 .given .1) ∙ m .entries .ensures .0 in
-    catalogue-no-room (F.read (a .limit) (now (a .file))) (now (a .out)) (m .entries .ensures .1) is (c .if1 .taken)
+    catalogue-no-room (a .limit) (now (a .file)) (now (a .out)) (m .entries .ensures .1) is (c .if1 .taken)
 
 put-heading-requires : tie.Need-put-heading-requires
 put-heading-requires c κs = search needs
@@ -55,7 +54,7 @@ entries-requires-2 c κs =
     let m = b .before .before .before .before in
     let a = m .before .before .before .before .args in
     let is = sym (b .counted3 .given .1) ∙ m .entries .ensures .0 in
-    λ e. catalogue-fits (F.read (a .limit) (now (a .file))) (now (a .out)) (m .entries .ensures .1) is (h .before .before .if1 .left) (h .put-heading .ensures)
+    λ e. catalogue-fits (a .limit) (now (a .file)) (now (a .out)) (m .entries .ensures .1) is (h .before .before .if1 .left) (h .put-heading .ensures)
 
 same-length-2 : tie.Need-same-length-2
 same-length-2 c = search needs
@@ -66,7 +65,7 @@ returns-2 c =
     let m = b .before .before .before .before in
     let a = m .before .before .before .before .args in
     let is = sym (b .counted .given .1) ∙ m .entries .ensures .0 in
-    catalogue-refused (F.read (a .limit) (now (a .file))) (now (a .out)) (m .entries .ensures .1) is
+    catalogue-refused (a .limit) (now (a .file)) (now (a .out)) (m .entries .ensures .1) is
 
 same-length-3 : tie.Need-same-length-3
 same-length-3 c = search needs
@@ -77,7 +76,7 @@ returns-3 c =
     let m = b .before .before .before .before in
     let a = m .before .before .before .before .args in
     let is = sym (b .counted2 .given .1) ∙ m .entries .ensures .0 in
-    catalogue-long (F.read (a .limit) (now (a .file))) (now (a .out)) (m .entries .ensures .1) is
+    catalogue-long (a .limit) (now (a .file)) (now (a .out)) (m .entries .ensures .1) is
 
 same-length-4 : tie.Need-same-length-4
 same-length-4 c = search needs
@@ -90,7 +89,7 @@ returns-4 c =
     let m = b .before .before .before .before in
     let a = m .before .before .before .before .args in
     let is = sym (b .counted3 .given .1) ∙ m .entries .ensures .0 in
-    catalogue-has-room (F.read (a .limit) (now (a .file))) (now (a .out)) (m .entries .ensures .1) is (h .before .before .if1 .left) (h .put-heading .ensures) (w .entries2 .ensures .1)
+    catalogue-has-room (a .limit) (now (a .file)) (now (a .out)) (m .entries .ensures .1) is (h .before .before .if1 .left) (h .put-heading .ensures) (w .entries2 .ensures .1)
 
 pub catalogue-spec : {M : Type 1} → statement M
 catalogue-spec =
