@@ -32,7 +32,7 @@ fn put_block(out: &mut [u8], at: usize, text: &[u8], i: usize, n: usize) -> usiz
     i + n
 }
 
-// Copies a short text to out from at on: eight bytes at once, then at most four, two and one.
+// Copies a short text to out from at on: eight bytes a turn, then at most four, two and one, with fewer tests than byte by byte.
 pub fn put_short(out: &mut [u8], at: usize, text: &[u8])
     requires { ⌜ at + length (now text) ≤ length (now out) ⌝ }
     ensures { λ _. ⌜ now (out .exit) ≡ sets (now (out .entry)) at (now (text .entry)) ⌝ }
