@@ -23,7 +23,7 @@ use Rattle.cbf_format.proofs.ListingLaws.{few-sections}
 use Rattle.cbf.specs.Outcomes.{roomFor, heading, noPlace, foundName, finishedBy, entriesOf, entriesIn, EntriesFit, cataloguedOr, catalogueOutcome, catalogueText}
 use Rattle.cbf.specs.declared.entries.Counted.{Counted}
 use Rattle.cbf.specs.declared.entries.Counted.the-variants as C
-use Rattle.cbf.proofs.Puts.{Put, put-both, sets-append}
+use Rattle.cbf_write.proofs.Puts.{Put, put-both, sets-append}
 use Rattle.cbf.proofs.OutcomeLaws.{Says, refusal, no-room, has-room}
 use Rattle.cbf.proofs.EntriesLaws.{length-entries}
 

@@ -27,7 +27,7 @@ use Rattle.cbf_reader.proofs.LoopLaws.{LoopAt, loop-start, LoopMore, AllRead, l
 use Rattle.cbf.specs.Outcomes.{entryFor, noPlace, withName, finishedBy, foundName, entriesOf, entriesIn, EntriesFit}
 use Rattle.cbf.specs.declared.entries.Counted.{Counted}
 use Rattle.cbf.specs.declared.entries.Counted.the-variants as C
-use Rattle.cbf.proofs.Puts.{putIf, put-if-length, put-if-none, put-if-off, put-if-more}
+use Rattle.cbf_write.proofs.Puts.{putIf, put-if-length, put-if-none, put-if-off, put-if-more}
 use Rattle.cbf.proofs.OutcomeLaws.{refused-off}
 use Rattle.cbf.proofs.EntryLaws.{length-entry}
 

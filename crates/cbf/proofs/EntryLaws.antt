@@ -13,7 +13,7 @@ use Rattle.cbf_pixels.proofs.Numbers.{length-octets, octets-number}
 use Rattle.cbf_format.specs.declared.Encoding.{Encoding}
 use Rattle.cbf_format.specs.Catalogue.{labelWidth, compressionNumber, typeNumber, encodingNumber, zeros, label, entry}
 use Rattle.cbf.specs.Outcomes.{fourNumbers}
-use Rattle.cbf.proofs.Puts.{sets-append, sets-over}
+use Rattle.cbf_write.proofs.Puts.{sets-append, sets-over}
 
 -- ---- octets stored from the first on
 

@@ -1,6 +1,4 @@
 -- The laws that the proofs of the functions use.
-pub mod Puts
-pub mod DigitLaws
 pub mod OutcomeLaws
 pub mod LineTexts
 pub mod LinesLaws

@@ -21,7 +21,7 @@ use Rattle.cbf_reader.proofs.LoopLaws.{LoopAt, loop-start, LoopMore, AllRead, l
 use Rattle.cbf.specs.Outcomes.{lineFor, linesOf, linesIn, Fits}
 use Rattle.cbf.specs.declared.lines.Measured.{Measured}
 use Rattle.cbf.specs.declared.lines.Measured.the-variants.{Refused, Length}
-use Rattle.cbf.proofs.Puts.{Put, putIf, put-if-length, put-if-none, put-if-off, put-if-more}
+use Rattle.cbf_write.proofs.Puts.{Put, putIf, put-if-length, put-if-none, put-if-off, put-if-more}
 use Rattle.cbf.proofs.OutcomeLaws.{refused-off}
 
 -- ---- lines

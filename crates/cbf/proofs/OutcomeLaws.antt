@@ -18,7 +18,7 @@ use Rattle.cbf_format.specs.Text.{bytes}
 use Rattle.cbf_format.specs.Listing.{printed, listing}
 use Rattle.cbf.specs.Outcomes.{roomFor, listOutcome, shown, linesOf, linesIn, Fits}
 use Rattle.cbf.specs.declared.lines.Measured.the-variants.{Refused, Length}
-use Rattle.cbf.proofs.Puts.{Put, put-both}
+use Rattle.cbf_write.proofs.Puts.{Put, put-both}
 
 -- what a call says, and what is then in the output
 abbrev pub Says : Outcome → List ℕ → List ℕ → Outcome → List ℕ → Type 0

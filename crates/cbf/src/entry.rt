@@ -1,6 +1,5 @@
 // The catalogue's entry of a section: 64 bytes.
 use crate::little;
-use crate::put;
 use cbf_format::Encoding;
 use cbf_format::LABEL_WIDTH;
 use cbf_pixels::Compression;
@@ -65,7 +64,7 @@ fn put_label(file: &[u8], from: usize, to: usize, out: &mut [u8], at: usize) -> 
     ensures { λ _. ⌜ now (out .exit) ≡ sets (now (out .entry)) at (label (slice from to (now (file .entry)))) ⌝ }
 {
     let end = little::put_zeros(out, at, LABEL_WIDTH);
-    put::put_short(out, at, &file[from..to]);
+    cbf_write::put_short(out, at, &file[from..to]);
     end
 }
 

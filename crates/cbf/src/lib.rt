@@ -1,11 +1,9 @@
 // The calls on a file: its sections with their octets and pixels, its listing and its catalogue; and packing. What is listed and catalogued
 // is defined in cbf_format; the functions here write it to lent memory.
-mod digits;
 mod entries;
 mod entry;
 mod lines;
 mod little;
-mod put;
 mod section_line;
 mod write_catalogue;
 
@@ -57,18 +55,18 @@ pub fn refusal_line(refusal: Refusal, out: &mut [u8]) -> Answer
 {
     let number = refusal.number as u64;
     let place = refusal.place as u64;
-    let n = 13 + digits::digit_count(number) + digits::digit_count(place);
+    let n = 13 + cbf_write::digit_count(number) + cbf_write::digit_count(place);
     if out.len() < n {
         return Answer::Refused(Refusal {
             number: 15,
             place: 0,
         });
     }
-    let after_word = put::put_text(out, 0, b"refused ");
-    let after_number = digits::put_number(out, after_word, number);
-    let after_at = put::put_text(out, after_number, b" at ");
-    let after_place = digits::put_number(out, after_at, place);
-    put::put_text(out, after_place, b"\n");
+    let after_word = cbf_write::put_text(out, 0, b"refused ");
+    let after_number = cbf_write::put_number(out, after_word, number);
+    let after_at = cbf_write::put_text(out, after_number, b" at ");
+    let after_place = cbf_write::put_number(out, after_at, place);
+    cbf_write::put_text(out, after_place, b"\n");
     Answer::Length(n)
 }
 

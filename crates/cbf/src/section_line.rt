@@ -1,6 +1,4 @@
 // The line of a section.
-use crate::digits;
-use crate::put;
 use cbf_pixels::Compression;
 use cbf_pixels::ElementType;
 use cbf_reader::Section;
@@ -52,10 +50,10 @@ pub fn line_length(section: Section, number: usize) -> usize
     let compression = d.compression;
     let kind = d.kind;
     let block = section.block;
-    let numbers = digits::digit_count(number as u64)
-        + digits::digit_count(section.first as u64)
-        + digits::digit_count(d.size)
-        + digits::digit_count(d.elements);
+    let numbers = cbf_write::digit_count(number as u64)
+        + cbf_write::digit_count(section.first as u64)
+        + cbf_write::digit_count(d.size)
+        + cbf_write::digit_count(d.elements);
     let names = compression_length(compression) + type_length(kind);
     // five spaces and the line end
     numbers + names + name_length(block.from, block.to) + 6
@@ -67,8 +65,8 @@ fn put_figure(out: &mut [u8], at: usize, n: u64) -> usize
     ensures { λ r. ⌜ r ≡ at + length (figure n) ⌝ }
     ensures { λ _. ⌜ now (out .exit) ≡ sets (now (out .entry)) at (figure n) ⌝ }
 {
-    let end = digits::put_number(out, at, n);
-    put::put_text(out, end, b" ")
+    let end = cbf_write::put_number(out, at, n);
+    cbf_write::put_text(out, end, b" ")
 }
 
 // Writes the four numbers of a line, each with a space after it.
@@ -97,8 +95,8 @@ fn put_compression(out: &mut [u8], at: usize, compression: Compression) -> usize
     ensures { λ _. ⌜ now (out .exit) ≡ sets (now (out .entry)) at (spaced (compressionName compression) []) ⌝ }
 {
     match compression {
-        Compression::Uncompressed => put::put_text(out, at, b"none "),
-        Compression::ByteOffset => put::put_text(out, at, b"byte_offset "),
+        Compression::Uncompressed => cbf_write::put_text(out, at, b"none "),
+        Compression::ByteOffset => cbf_write::put_text(out, at, b"byte_offset "),
     }
 }
 
@@ -109,12 +107,12 @@ fn put_type(out: &mut [u8], at: usize, kind: ElementType) -> usize
     ensures { λ _. ⌜ now (out .exit) ≡ sets (now (out .entry)) at (typeName kind) ⌝ }
 {
     match kind {
-        ElementType::U8 => put::put_text(out, at, b"u8"),
-        ElementType::S8 => put::put_text(out, at, b"s8"),
-        ElementType::U16 => put::put_text(out, at, b"u16"),
-        ElementType::S16 => put::put_text(out, at, b"s16"),
-        ElementType::U32 => put::put_text(out, at, b"u32"),
-        ElementType::S32 => put::put_text(out, at, b"s32"),
+        ElementType::U8 => cbf_write::put_text(out, at, b"u8"),
+        ElementType::S8 => cbf_write::put_text(out, at, b"s8"),
+        ElementType::U16 => cbf_write::put_text(out, at, b"u16"),
+        ElementType::S16 => cbf_write::put_text(out, at, b"s16"),
+        ElementType::U32 => cbf_write::put_text(out, at, b"u32"),
+        ElementType::S32 => cbf_write::put_text(out, at, b"s32"),
     }
 }
 
@@ -127,8 +125,8 @@ fn put_name(file: &[u8], from: usize, to: usize, out: &mut [u8], at: usize) -> u
     if from == to {
         return at;
     }
-    let after_space = put::put_text(out, at, b" ");
-    put::put_text(out, after_space, &file[from..to])
+    let after_space = cbf_write::put_text(out, at, b" ");
+    cbf_write::put_text(out, after_space, &file[from..to])
 }
 
 // Writes the section's line to out from at on; the place after it.
@@ -154,5 +152,5 @@ pub fn put_line(file: &[u8], section: Section, number: usize, out: &mut [u8], at
     let after_compression = put_compression(out, after_figures, compression);
     let after_type = put_type(out, after_compression, kind);
     let after_name = put_name(file, from, to, out, after_type);
-    put::put_text(out, after_name, b"\n")
+    cbf_write::put_text(out, after_name, b"\n")
 }

@@ -2,7 +2,6 @@
 use crate::entries;
 use crate::entries::Counted;
 use crate::little;
-use crate::put;
 use cbf_pixels::Answer;
 use cbf_pixels::Refusal;
 ghost use mathlib.Core.Path.{_≡_};
@@ -18,7 +17,7 @@ fn put_heading(out: &mut [u8], count: usize)
     requires { ⌜ 8 ≤ length (now out) ⌝ }
     ensures { λ _. ⌜ now (out .exit) ≡ sets (now (out .entry)) 0 (heading count) ⌝ }
 {
-    let after_version = put::put_text(out, 0, b"FRC\x00\x01\x00");
+    let after_version = cbf_write::put_text(out, 0, b"FRC\x00\x01\x00");
     little::put_little(out, after_version, 2, count as u64);
 }
 

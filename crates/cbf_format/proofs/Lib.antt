@@ -7,4 +7,10 @@ pub mod FileLaws
 pub mod Examples
 pub mod ListingLaws
 pub mod PlaceLaws
+pub mod VerdictLaws
 pub mod OctetLaws
+pub mod DecimalLaws
+pub mod HeaderLaws
+pub mod HouseLaws
+pub mod HouseSections
+pub mod ReplacementLaws

@@ -91,16 +91,19 @@ pub textLine-tame : (limit : ℕ) → Tame (textLine limit)
 unfolding textLine
 textLine-tame limit = screen-tame (refusedByte limit 0) line-tame
 
--- the bytes of an accepted text line from column i on
+-- the first byte of an accepted text line from column i on, and the rest
+pub unrefused : (limit i x : ℕ) (t : List ℕ) → refusedByte limit i (x ∷ t) ≡ none → (textual x ≡ true) × (i < limit) × (refusedByte limit (suc i) t ≡ none)
+unrefused limit i x t h = go (textual x) refl (ltb i limit) refl h
+  where
+    go : (a : Bool) → textual x ≡ a → (b : Bool) → ltb i limit ≡ b → cond a (cond b (refusedByte limit (suc i) t) (some (2, i))) (some (3, i)) ≡ none
+        → (textual x ≡ true) × (i < limit) × (refusedByte limit (suc i) t ≡ none)
+    go true p true q h = (p, ltb-true i limit q, h)
+    go true p false q h = absurd (Option·some-ne-none (2, i) h)
+    go false p b q h = absurd (Option·some-ne-none (3, i) h)
+
 bytes-short : (limit i : ℕ) (t : List ℕ) → i ≤ limit → refusedByte limit i t ≡ none → i + length t ≤ limit
 bytes-short limit i [] h e = omega arith
-bytes-short limit i (x ∷ t) h e = go (textual x) (ltb i limit) refl e (λ h e. bytes-short limit (suc i) t h e)
-  where
-    go : (b c : Bool) → ltb i limit ≡ c → cond b (cond c (refusedByte limit (suc i) t) (some (2, i))) (some (3, i)) ≡ none
-        → (suc i ≤ limit → refusedByte limit (suc i) t ≡ none → suc i + length t ≤ limit) → i + suc (length t) ≤ limit
-    go true true q e ih = omega (arith, ih (ltb-true i limit q) e)
-    go true false q e ih = absurd (Option·some-ne-none (2, i) e)
-    go false c q e ih = absurd (Option·some-ne-none (3, i) e)
+bytes-short limit i (x ∷ t) h e = let u = unrefused limit i x t e in omega (arith, bytes-short limit (suc i) t (u .1) (u .2))
 
 -- an accepted text line has at most `limit` characters
 pub textLine-short : (limit : ℕ) (s t : List ℕ) (n : ℕ) → textLine limit s ≡ ok t n → length t ≤ limit

@@ -1,12 +1,12 @@
 -- A section of an accepted file and the bytes of the file that its octets come from: where they stand, how many they are, and what the headers say of them. Assumes nothing.
 use mathlib.Core.Path.{_≡_, refl, sym, ap, _∙_, subst}
 use mathlib.Core.Option.{Option, none, some, Option·none-ne-some, Option·some-ne-none}
-use mathlib.Core.Bool.{Bool, true, false, _&&_, cond}
+use mathlib.Core.Bool.{Bool, true, false}
 use mathlib.Core.List.{List, [], _∷_, _++_}
 use Prim.Native.Nat.{ℕ, zero, suc, _+_, _*_, _≤_}
 use native.Mathlib.Omega.{arith}
-use lib.Dec.{leb, eqb}
-use borrow.Author.Tests.{leb-true, eqb-true}
+use lib.Dec.{eqb}
+use borrow.Author.Tests.{eqb-true}
 use lib.ListN.{length, take, drop, length-append, length-drop}
 use lib.Seq.{slice, take-add, drop-at, drop-drop, length-take-le}
 use Rattle.cbf_walk.specs.Parsers.{ok, ret, blame, bind}
@@ -17,18 +17,18 @@ use Rattle.cbf_pixels.specs.Uncompressed.{octetsPer}
 use Rattle.cbf_format.specs.declared.Encoding.{Encoding}
 use Rattle.cbf_format.specs.declared.Encoding.the-variants.{Binary, Base64}
 use Rattle.cbf_format.specs.Lines.{octets, word, semicolonLine}
-use Rattle.cbf_format.specs.Headers.{Header, HeaderLines, headerLines, group}
-use Rattle.cbf_format.specs.Values.{number, between, oneOf, knownNames, valueOf}
-use Rattle.cbf_format.specs.Descriptions.{Description, Judged, refused-at, found, look, put, judgeHeader, onward as judgedOn, judge, sizeAgrees, dimensionsAgree, description, agrees, Verdict, refuses, describes, described, verdictOf, verdict, headers}
+use Rattle.cbf_format.specs.Headers.{HeaderLines, headerLines}
+use Rattle.cbf_format.specs.Descriptions.{describes, verdict, headers}
 use Rattle.cbf_format.specs.Base64.{Letters, letters, decode}
 use Rattle.cbf_format.specs.Sections.{closing, marker, fileLimit, Data, closed, closedAfter, binaryData, goodText, decoded, base64Data, dataFor, Section}
 use Rattle.cbf_format.specs.Files.{State, start, due, step, Tree, read}
 use Rattle.cbf_format.specs.Listing.{Placed, addPlaced, sections, numbered, position}
 use Rattle.cbf_format.proofs.Slices.{slice-take}
-use Rattle.cbf_format.proofs.LineTame.{unoctets, and-true}
+use Rattle.cbf_format.proofs.LineTame.{unoctets}
 use Rattle.cbf_format.proofs.SectionTame.{unconclude, binaryOf, text, base64Of, afterText, unclose}
 use Rattle.cbf_format.proofs.SectionLaws.{word-count, data-says}
 use Rattle.cbf_format.proofs.FileLaws.{Took, took, accepted}
+use Rattle.cbf_format.proofs.VerdictLaws.{known, size-agrees}
 
 -- a section's data: what stands behind its headers, at a place of the file
 pub record DataAt (limit : ℕ) (file : List ℕ) (p : Placed) : Type 0 where
@@ -159,73 +159,6 @@ data-count : (limit : ℕ) (e : Encoding) (size : ℕ) (s : List ℕ) (d : Data)
 data-count limit Binary size s d n e = let b = binary-at limit size s d n e in ap length (b .octets) ∙ length-take-le size (drop 4 s) (b .fits)
 data-count limit Base64 size s d n e = base64-count limit size s d n e
 
--- ---- what the headers say
-
--- each number that was found is the value of its header
-abbrev Valued : List (ℕ × ℕ) → Type 0
-Valued fs = (k n : ℕ) → look k fs ≡ some n → (v : List ℕ) × (valueOf k v ≡ some n)
-
-abbrev JudgedValued : Judged → Type 0
-JudgedValued (refused-at p) = Unit {0}
-JudgedValued (found fs) = Valued fs
-
-judge-valued : (hs : List Header) (fs : List (ℕ × ℕ)) → Valued fs → JudgedValued (judge hs fs)
-unfolding judge
-judge-valued [] fs w = w
-judge-valued (h ∷ hs) fs w = on (judgeHeader h (oneOf 0 knownNames (h .name)) fs) (header (oneOf 0 knownNames (h .name))) (λ r w. judge-valued hs r w)
-  where
-    value : (k : ℕ) (old v : Option ℕ) → valueOf k (h .value) ≡ v → JudgedValued (put (h .at) k old v fs)
-    value k (some n) v q = tt
-    value k none none q = tt
-    value k none (some n) q = λ j m e. by j m (eqb j k) refl e
-      where
-        by : (j m : ℕ) (b : Bool) → eqb j k ≡ b → cond b (some n) (look j fs) ≡ some m → (v : List ℕ) × (valueOf j v ≡ some m)
-        by j m true p e = (h .value, ap (λ (z : ℕ). valueOf z (h .value)) (eqb-true j k p) ∙ q ∙ e)
-        by j m false p e = w j m e
-
-    header : (o : Option ℕ) → JudgedValued (judgeHeader h o fs)
-    header none = w
-    header (some k) = value k (look k fs) (valueOf k (h .value)) refl
-
-    on : (j : Judged) → JudgedValued j → ((r : List (ℕ × ℕ)) → Valued r → JudgedValued (judge hs r)) → JudgedValued (judgedOn (λ r. judge hs r) j)
-    on (refused-at p) v ih = tt
-    on (found r) v ih = ih r v
-
-between-most : (least most : ℕ) (o : Option ℕ) (n : ℕ) → between least most o ≡ some n → n ≤ most
-between-most least most none n e = absurd (Option·none-ne-some n e)
-between-most least most (some m) n e = go (leb least m) (leb m most) refl e
-  where
-    go : (a b : Bool) → leb m most ≡ b → cond (a && b) (some m) none ≡ some n → n ≤ most
-    go true true q h = let p : m ≡ n = cc in omega (arith, leb-true m most q)
-    go true false q h = absurd (Option·none-ne-some n h)
-    go false b q h = absurd (Option·none-ne-some n h)
-
--- a description that the headers gave: its elements are few, and its counts agree
-abbrev Sound : Verdict → Type 0
-Sound (refuses k p) = Unit {0}
-Sound (describes d) = (d .elements ≤ 67_108_864) × (agrees d ≡ true)
-
-verdict-sound : (hs : HeaderLines) → Sound (verdict hs)
-unfolding verdict
-verdict-sound hs = go (judge (group (hs .lines) .headers) []) (judge-valued (group (hs .lines) .headers) [] (λ k n e. absurd (Option·none-ne-some n e)))
-  where
-    agreed : (d : Description) (b : Bool) → agrees d ≡ b → d .elements ≤ 67_108_864 → Sound (cond b (describes d) (refuses 7 (hs .empty)))
-    agreed d true q h = (h, q)
-    agreed d false q h = tt
-
-    all : (e n k : Option ℕ) (fs : List (ℕ × ℕ)) → look 2 fs ≡ k → Valued fs → Sound (described (hs .empty) e n k fs)
-    all (some e) (some n) (some k) fs q w =
-        let v = w 2 k q in
-        let d = description e n k fs in
-        agreed d (agrees d) refl (between-most 0 67_108_864 (number (v .0)) k (v .1))
-    all none n k fs q w = tt
-    all (some e) none k fs q w = tt
-    all (some e) (some n) none fs q w = tt
-
-    go : (j : Judged) → JudgedValued j → Sound (verdictOf (hs .empty) j)
-    go (refused-at p) w = tt
-    go (found fs) w = all (look 0 fs) (look 1 fs) (look 2 fs) fs refl w
-
 -- ---- a section and its octets
 
 module _ {limit : ℕ} {file : List ℕ} {p : Placed} (d : DataAt limit file p) where
@@ -257,19 +190,12 @@ module _ {limit : ℕ} {file : List ℕ} {p : Placed} (d : DataAt limit file p) 
       ap length (d .octets)
       ∙ data-count limit (p .section .description .encoding) (p .section .description .size) (drop (d .at) file) (d .found) (d .took) (d .read-data)
 
-  sound-description : Sound (describes (p .section .description))
-  sound-description = subst Sound (d .described .1) (verdict-sound (d .described .0))
-
   -- "X-Binary-Number-of-Elements .. 0 to 67,108,864"
   pub few-elements : p .section .description .elements ≤ 67_108_864
-  few-elements = sound-description .0
+  few-elements = known (d .described .0) (p .section .description) (d .described .1) .few
 
   -- "uncompressed size = elements × octets per element"
   pub whole-elements : p .section .description .compression ≡ Uncompressed → p .section .description .size ≡ p .section .description .elements * octetsPer (p .section .description .type)
-  whole-elements e = go (p .section .description) e (sound-description .1)
-    where
-      go : (x : Description) → x .compression ≡ Uncompressed → agrees x ≡ true → x .size ≡ x .elements * octetsPer (x .type)
-      go x e a =
-          let s : sizeAgrees (x .compression) (x .type) (x .size) (x .elements) ≡ true =
-          and-true (sizeAgrees (x .compression) (x .type) (x .size) (x .elements)) (dimensionsAgree (x .fastest) (x .second) (x .third) (x .elements)) a .0 in
-          eqb-true (x .size) (x .elements * octetsPer (x .type)) (rw e at s)
+  whole-elements e =
+      let x = p .section .description in
+      eqb-true (x .size) (x .elements * octetsPer (x .type)) (rw e at (size-agrees (d .described .0) x (d .described .1)))

@@ -8,3 +8,4 @@ pub mod Sections
 pub mod Files
 pub mod Listing
 pub mod Catalogue
+pub mod House

@@ -15,18 +15,18 @@ use Rattle.cbf_walk.proofs.ParserLaws.{hd-app}
 use Rattle.cbf_walk.proofs.ReadingLaws.{sound, complete}
 
 -- an item of these bytes and next state
-abbrev item : {St Info : Type 0} → Item St Info → Option Info → Item St Info
+abbrev pub item : {St Info : Type 0} → Item St Info → Option Info → Item St Info
 item it o = record { bytes = it .bytes; info = o; next = it .next }
 
 -- induction over items, where the first is a section or is none
 module _ {St Info : Type 0} where
-  abbrev Plain : (List (Item St Info) → Type 0) → Type 0
+  abbrev pub Plain : (List (Item St Info) → Type 0) → Type 0
   Plain P = (it : Item St Info) (its : List (Item St Info)) → P its → P (item it none ∷ its)
 
-  abbrev Section : (List (Item St Info) → Type 0) → Type 0
+  abbrev pub Section : (List (Item St Info) → Type 0) → Type 0
   Section P = (it : Item St Info) (a : Info) (its : List (Item St Info)) → P its → P (item it (some a) ∷ its)
 
-  by-items : (P : List (Item St Info) → Type 0) → P [] → Plain P → Section P → (its : List (Item St Info)) → P its
+  pub by-items : (P : List (Item St Info) → Type 0) → P [] → Plain P → Section P → (its : List (Item St Info)) → P its
   by-items P e p s [] = e
   by-items P e p s (it ∷ its) = go (it .info) (by-items P e p s its)
     where

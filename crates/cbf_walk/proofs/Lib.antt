@@ -3,3 +3,4 @@ pub mod ParserLaws
 pub mod ReadingLaws
 pub mod PlaceLaws
 pub mod EditLaws
+pub mod OrderLaws

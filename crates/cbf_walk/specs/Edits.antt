@@ -3,7 +3,9 @@ use mathlib.Core.Path.{_≡_}
 use mathlib.Core.Option.{Option, none, some}
 use mathlib.Core.List.{List, [], _∷_, _++_}
 use Prim.Native.Nat.{ℕ, zero, suc, _+_, _≤_, _<_}
-use lib.ListN.{length, drop}
+use mathlib.Core.Bool.{Bool, true, false}
+use lib.ListN.{length, take, drop}
+use lib.Seq.{slice}
 use Rattle.cbf_walk.specs.Parsers.{ok, Parser, hd}
 use Rattle.cbf_walk.specs.Reading.{Item}
 
@@ -69,3 +71,19 @@ pub record Lawful {St Info : Type 0} (step : St → Parser (Option Info × St)) 
       → step st ((w i ++ drop (width i) b) ++ r) ≡ ok (some (v i), t) (length (w i ++ drop (width i) b))
   pub some-byte : 0 < length (w i)
   pub same-byte : (st t : St) (b r q : List ℕ) → step st (b ++ r) ≡ ok (some i, t) (length b) → hd (w i ++ q) ≡ hd (b ++ r)
+
+-- ---- files with bytes exchanged
+
+-- the file with k bytes at `at` exchanged for `new`
+unfoldable pub exchange : List ℕ → ℕ → ℕ → List ℕ → List ℕ
+exchange file at k new = take at file ++ (new ++ drop (at + k) file)
+
+-- the file with k bytes at p exchanged for n, and further on k′ bytes at p′ for n′: every other byte is there, in its order
+unfoldable pub exchangeTwo : List ℕ → ℕ → ℕ → List ℕ → ℕ → ℕ → List ℕ → List ℕ
+exchangeTwo file p k n p′ k′ n′ = take p file ++ (n ++ (slice (p + k) p′ file ++ (n′ ++ drop (p′ + k′) file)))
+
+-- the same, whichever of the two stands first in the file: `b` says that the first one does
+unfoldable pub exchangeBoth : Bool → List ℕ → ℕ → ℕ → List ℕ → ℕ → ℕ → List ℕ → List ℕ
+unfolding exchangeTwo
+exchangeBoth true file p k n p′ k′ n′ = exchangeTwo file p k n p′ k′ n′
+exchangeBoth false file p k n p′ k′ n′ = exchangeTwo file p′ k′ n′ p k n

@@ -4,7 +4,7 @@ use Prim.Native.Nat.{_+_, _≤_}
 use borrow.Author.Needs.{needs}
 use lib.ListN.{length}
 use Rattle.cbf.specs.Outcomes.{figure}
-use Rattle.cbf.proofs.Puts.{put-both}
+use Rattle.cbf_write.proofs.Puts.{put-both}
 use Rattle.cbf.proofs.LineTexts.{first-fits, rest-fits}
 use Rattle.cbf.proofs.section_line.put_figures.Statement.{statement}
 use Rattle.cbf.proofs.section_line.put_figures.Tie as tie

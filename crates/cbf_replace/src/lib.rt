@@ -1,5 +1,5 @@
 // Replacing the frame of a section: a copy of the file with the section's span in house form.
 mod head;
-mod replace_frame;
 
-pub use replace_frame::replace;
+pub use head::head_length;
+pub use head::put_head;

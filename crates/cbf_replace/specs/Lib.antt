@@ -1,3 +1,2 @@
 -- What replacement answers, and the file that it gives.
-pub mod ReplaceCalls
 pub mod HeadTexts
