@@ -77,6 +77,17 @@ uint64_t cbf_octets(const uint8_t *file, size_t file_len, size_t section, uint64
  * (BASE64: the byte after the empty line); 15 at 0 for too little room. */
 uint64_t cbf_unpack(const uint8_t *file, size_t file_len, size_t section, int64_t *pixels, size_t room);
 
+/* Writes a copy of a file in which the frame of one BINARY section is another. That section is rewritten with byte-offset
+ * compression; it keeps its element type, ID and dimensions, and its other headers go. Every byte before its opening
+ * boundary and after its closing boundary stays as it is. The old octets need not unpack. The answer is the number of bytes
+ * of the copy. Room for file_len + 1,000 + 15 * frame_len bytes is always enough.
+ * Refusals, in this order: 1 to 11 for what is wrong in the file, with its place; then, each at 0: 12 for a section number
+ * that is 0 or above the count; 18 for a BASE64 section; 14 for a frame of another number of pixels than the section has
+ * elements, or a pixel outside the element type; 16 for more than 1,073,741,824 octets, which no frame can reach; 15 for
+ * too little room, or for a copy of more than 1,073,741,824 bytes. */
+uint64_t cbf_replace(const uint8_t *file, size_t file_len, size_t section, const int64_t *frame, size_t frame_len,
+                     uint8_t *out, size_t room);
+
 #ifdef __cplusplus
 }
 #endif

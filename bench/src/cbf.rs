@@ -28,6 +28,15 @@ extern "C" {
         pixels: *mut i64,
         room: usize,
     ) -> u64;
+    fn cbf_replace(
+        file: *const u8,
+        file_len: usize,
+        section: usize,
+        frame: *const i64,
+        frame_len: usize,
+        out: *mut u8,
+        room: usize,
+    ) -> u64;
 }
 
 /// The length of the answer, or a refusal's number and place.
@@ -111,6 +120,21 @@ pub fn unpack(file: &[u8], section: usize, pixels: &mut [i64]) -> Answer {
             section,
             pixels.as_mut_ptr(),
             pixels.len(),
+        )
+    })
+}
+
+pub fn replace(file: &[u8], section: usize, frame: &[i64], out: &mut [u8]) -> Answer {
+    // Sound: the slices are valid for their lengths, and `out` is borrowed alone.
+    answer(unsafe {
+        cbf_replace(
+            file.as_ptr(),
+            file.len(),
+            section,
+            frame.as_ptr(),
+            frame.len(),
+            out.as_mut_ptr(),
+            out.len(),
         )
     })
 }

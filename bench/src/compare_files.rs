@@ -3,12 +3,14 @@
 
 use crate::cbf::{self, Answer};
 use crate::compare::differ;
-use crate::compare_sections::{self, Read, Tally as Sections};
+use crate::compare_replacements::{self, Tally as Replacements};
+use crate::compare_sections::{self, Tally as Sections};
 use crate::compare_vectors;
 use crate::damage::damage;
 use crate::files;
 use crate::frames::Random;
-use crate::reader::{self, Refusal};
+use crate::reader::{self, Read, Refusal};
+use crate::replaced_vectors;
 use crate::vectors;
 
 const GOOD: usize = 12_000;
@@ -107,12 +109,16 @@ struct Run {
     random: Random,
     tallies: [Tally; 3],
     sections: Sections,
+    replacements: Replacements,
 }
 
 impl Run {
     fn check(&mut self, file: &[u8], kind: Kind) -> usize {
         let read = reader::read(file);
         self.tallies[kind as usize].take(&read);
+        let styles = matches!(kind, Kind::Given);
+        let (random, tally) = (&mut self.random, &mut self.replacements);
+        compare_replacements::check(file, &read, styles, random, tally);
         check(file, &read, &mut self.random, &mut self.sections)
     }
 
@@ -191,16 +197,17 @@ pub fn all() -> usize {
         random: Random::new(3),
         tallies: Default::default(),
         sections: Sections::default(),
+        replacements: Replacements::default(),
     };
     let cases = vectors::cases();
-    let mut calls = compare_vectors::all() + run.lengths();
+    let mut calls = compare_vectors::all() + replaced_vectors::all() + run.lengths();
     for (file, _) in &cases {
         calls += run.check(file, Kind::Given);
     }
     calls += run.good() + run.damaged_files() + run.damaged_vectors(&cases);
-    let enough = run.show();
-    if !run.sections.show() || !enough {
+    let enough = [run.show(), run.sections.show(), run.replacements.show()];
+    if enough.contains(&false) {
         std::process::exit(1);
     }
-    calls + run.sections.calls()
+    calls + run.sections.calls() + run.replacements.calls()
 }

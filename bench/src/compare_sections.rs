@@ -5,11 +5,8 @@ use crate::cbf::{self, Answer};
 use crate::compare::{canaries, differ};
 use crate::contents::WINDOW;
 use crate::frames::Random;
-use crate::reader::{Refusal, Section};
+use crate::reader::{Read, Refusal, Section};
 use crate::sections;
-
-/// What the reader makes of a file.
-pub type Read<'f> = Result<Vec<Section<'f>>, Refusal>;
 
 /// Of a file with more sections, some are looked at.
 const SOME: usize = 6;

@@ -2,13 +2,12 @@
 
 use crate::cbf;
 use crate::compare::differ;
-use crate::compare_sections::Read;
-use crate::reader::{self, Refusal};
+use crate::reader::{self, Read, Refusal};
 use crate::sections;
 use crate::vectors;
 
 /// Room of the transcript's calls, in bytes and in pixels.
-const ROOM: usize = 262_144;
+pub const ROOM: usize = 262_144;
 
 /// Differs unless both sides say what the transcript says.
 fn check(case: usize, library: String, reader: String, transcript: &str) {
@@ -30,14 +29,14 @@ fn hash(numbers: impl Iterator<Item = u32>) -> u32 {
     numbers.fold(0u32, |h, number| h.wrapping_mul(31).wrapping_add(number))
 }
 
-fn octet_words(octets: Result<&[u8], Refusal>) -> String {
+pub fn octet_words(octets: Result<&[u8], Refusal>) -> String {
     octets.map_or_else(refused, |octets| {
         let hash = hash(octets.iter().map(|&octet| octet.into()));
         format!("length {} hash {hash}", octets.len())
     })
 }
 
-fn pixel_words(pixels: Result<&[i64], Refusal>) -> String {
+pub fn pixel_words(pixels: Result<&[i64], Refusal>) -> String {
     pixels.map_or_else(refused, |pixels| {
         let hash = hash(pixels.iter().map(|&pixel| (pixel + (1 << 31)) as u32));
         format!("pixels {} hash {hash}", pixels.len())

@@ -89,6 +89,29 @@ fn noise(element_type: u8, random: &mut Random) -> Vec<i64> {
         .collect()
 }
 
+/// A detector-like frame of s32, another for each number.
+pub fn exposure(number: usize) -> Vec<i64> {
+    detector(6, &mut Random::new(1_000 + number as u64))
+}
+
+/// Width and height of a large detector: four rows of five of these frames, with gaps of 17 rows and 7 columns.
+pub const LARGE: (usize, usize) = (5 * WIDTH + 4 * 7, 4 * HEIGHT + 3 * 17);
+
+/// A detector-like frame of s32 as large; gaps are -1.
+pub fn large() -> Vec<i64> {
+    let frame = exposure(0);
+    let mut pixels = vec![-1; LARGE.0 * LARGE.1];
+    for (y, line) in pixels.chunks_mut(LARGE.0).enumerate() {
+        let row = y % (HEIGHT + 17);
+        if row < HEIGHT {
+            for part in line.chunks_mut(WIDTH + 7) {
+                part[..WIDTH].copy_from_slice(&frame[row * WIDTH..][..WIDTH]);
+            }
+        }
+    }
+    pixels
+}
+
 pub fn frame(kind: &str, element_type: u8) -> Vec<i64> {
     let mut random = Random::new(7);
     match kind {

@@ -157,6 +157,35 @@ pub fn section(
     file
 }
 
+/// Frames of s32 as a detector writes them, each in a data block of its own; the octets are packed.
+pub fn exposures<'o>(
+    width: usize,
+    height: usize,
+    frames: impl Iterator<Item = &'o [u8]>,
+) -> Vec<u8> {
+    let mut file = b"###CBF: VERSION 1.5\r\n".to_vec();
+    for (index, octets) in frames.enumerate() {
+        let (number, size, elements) = (index + 1, octets.len(), width * height);
+        let text = format!(
+            "\r\ndata_image_{number}\r\n\r\n_array_data.header_convention \"SLS_1.0\"\r\n_array_data.header_contents\r\n;\r\n\
+            # Exposure_time 0.200000 s\r\n# Start_angle {:.4} deg.\r\n;\r\n\r\n_array_data.data\r\n;\r\n\
+            --CIF-BINARY-FORMAT-SECTION--\r\n\
+            Content-Type: application/octet-stream;\r\n     conversions=\"x-CBF_BYTE_OFFSET\"\r\n\
+            Content-Transfer-Encoding: BINARY\r\nX-Binary-Size: {size}\r\nX-Binary-ID: {number}\r\n\
+            X-Binary-Element-Type: \"signed 32-bit integer\"\r\n\
+            X-Binary-Element-Byte-Order: LITTLE_ENDIAN\r\nContent-MD5: 1B2M2Y8AsgTpgAmY7PhCfg==\r\n\
+            X-Binary-Number-of-Elements: {elements}\r\n\
+            X-Binary-Size-Fastest-Dimension: {width}\r\nX-Binary-Size-Second-Dimension: {height}\r\n\r\n",
+            0.1 * index as f64
+        );
+        file.extend_from_slice(text.as_bytes());
+        file.extend_from_slice(b"\x0c\x1a\x04\xd5");
+        file.extend_from_slice(octets);
+        file.extend_from_slice(b"\r\n--CIF-BINARY-FORMAT-SECTION----\r\n;\r\n");
+    }
+    file
+}
+
 /// One BINARY section of 1,000,000,000 octets, all 0; only the ends of the file are touched.
 pub fn octets() -> Vec<u8> {
     let (size, elements) = (1_000_000_000, 67_108_864);

@@ -3,13 +3,17 @@
 //! bench               compare, then measure; exit status 1 at the first difference or where a bar is not met
 //! bench compare       compare only
 //! bench program PATH  compare what the program cbf_list prints
+//! bench masked IN SECTION OUT LIMIT VALUE    what examples/replace.c is to write and to print
 //! bench run WHO WHAT FRAME TYPE TIMES    one call, that many times: what valgrind counts
 //! bench run WHO FILE TIMES               one reading of a large file, that many times
 //! bench run WHO CALL FILE TIMES          one call on a file's sections, that many times
+//! bench run replacement CALL TIMES       memcpy, pack, or the number of a frame to replace in a large file, that many times
 
 mod cbf;
 mod compare;
 mod compare_files;
+mod compare_masks;
+mod compare_replacements;
 mod compare_sections;
 mod compare_vectors;
 mod contents;
@@ -17,12 +21,17 @@ mod damage;
 mod files;
 mod frames;
 mod large;
+mod masked;
 mod measure_calls;
 mod measure_files;
+mod measure_replacement;
 mod other_programs;
 mod program;
 mod reader;
 mod reference;
+mod replaced_limits;
+mod replaced_vectors;
+mod replacement;
 mod sections;
 mod vectors;
 
@@ -142,6 +151,7 @@ fn measure_all() -> bool {
         measure(),
         measure_files::measure(),
         measure_calls::measure(),
+        measure_replacement::measure(),
     ];
     !met.contains(&false)
 }
@@ -153,34 +163,42 @@ fn compare() {
         compare_files::all()
     );
     println!(
+        "bench: {} calls with masks on two of forty frames and with the longest result, no difference",
+        compare_masks::all() + replaced_limits::all()
+    );
+    println!(
         "bench: {} calls on files by CBFlib, fabio and DIALS compared, no difference",
         other_programs::all()
     );
+}
+
+/// What valgrind counts; whether the words name such a run.
+fn run_words(words: &[&str]) -> bool {
+    let number = |times: &str| times.parse().expect("a number");
+    match *words {
+        [who, what, frame, element_type, times] => {
+            run(who, what, frame, type_number(element_type), number(times));
+        }
+        ["replacement", call, times] => measure_replacement::run(call, number(times)),
+        [who, file, times] => _ = measure_files::run(who, file, number(times)),
+        [who, call, file, times] => _ = measure_calls::run(who, call, file, number(times)),
+        _ => return false,
+    }
+    true
 }
 
 fn main() {
     let words: Vec<String> = std::env::args().skip(1).collect();
     let words: Vec<&str> = words.iter().map(String::as_str).collect();
     match words[..] {
-        ["run", who, what, frame, element_type, times] => {
-            run(
-                who,
-                what,
-                frame,
-                type_number(element_type),
-                times.parse().expect("a number"),
-            );
-        }
-        ["run", who, file, times] => {
-            measure_files::run(who, file, times.parse().expect("a number"));
-        }
-        ["run", who, call, file, times] => {
-            measure_calls::run(who, call, file, times.parse().expect("a number"));
-        }
+        ["run", ref words @ ..] if run_words(words) => {}
         ["compare"] => compare(),
         ["program", path] => {
             let runs = program::all(path);
             println!("bench: {runs} runs of {path} compared, no difference");
+        }
+        ["masked", from, section, to, limit, value] => {
+            std::process::exit(masked::run([from, section, to, limit, value]));
         }
         [] => {
             compare();
@@ -189,7 +207,7 @@ fn main() {
             }
         }
         _ => {
-            println!("usage: bench [compare | program PATH | run WHO WHAT FRAME TYPE TIMES | run WHO FILE TIMES | run WHO CALL FILE TIMES]");
+            println!("usage: bench [compare | program PATH | masked IN SECTION OUT LIMIT VALUE | run ..]; src/main.rs says what each does");
             std::process::exit(2);
         }
     }

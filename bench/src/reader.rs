@@ -9,9 +9,9 @@ pub const FILE_LIMIT: usize = 1_073_741_824;
 const SECTION_LIMIT: usize = 512;
 
 const IDENTIFIER: &[u8] = b"###CBF: VERSION";
-const OPENING: &[u8] = b"--CIF-BINARY-FORMAT-SECTION--";
+pub const OPENING: &[u8] = b"--CIF-BINARY-FORMAT-SECTION--";
 pub const CLOSING: &[u8] = b"--CIF-BINARY-FORMAT-SECTION----";
-const MARKER: &[u8] = b"\x0c\x1a\x04\xd5";
+pub const MARKER: &[u8] = b"\x0c\x1a\x04\xd5";
 
 /// Number and place.
 pub type Refusal = (u32, u32);
@@ -34,7 +34,10 @@ pub struct Section<'a> {
     pub block: &'a [u8],
 }
 
-pub fn read(file: &[u8]) -> Result<Vec<Section<'_>>, Refusal> {
+/// What is made of a file.
+pub type Read<'f> = Result<Vec<Section<'f>>, Refusal>;
+
+pub fn read(file: &[u8]) -> Read<'_> {
     if file.len() > FILE_LIMIT {
         return Err((4, 0));
     }

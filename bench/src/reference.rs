@@ -30,6 +30,7 @@ pub fn put_difference(d: i64, narrowest: usize, out: &mut Vec<u8>) {
     }
 }
 
+#[inline(always)] // For the peer, as difference is.
 fn little(octets: &[u8]) -> i64 {
     let mut word = if octets[octets.len() - 1] >= 128 {
         [255; 8]

@@ -6,7 +6,7 @@ use crate::reference;
 use std::borrow::Cow;
 
 /// The section with that number; the first one has 1.
-fn numbered<'s, 'f>(
+pub fn numbered<'s, 'f>(
     sections: &'s [Section<'f>],
     number: usize,
 ) -> Result<&'s Section<'f>, Refusal> {

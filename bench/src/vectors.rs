@@ -1,9 +1,9 @@
-//! The files in ../vectors, with what an independent program says of them.
+//! The files of the program cbf_transcript, with what an independent program says of them.
 
 pub const COUNT: usize = 542;
 
-const FILES: &[u8] = include_bytes!("../vectors/cases.bin");
-const TRANSCRIPT: &str = include_str!("../vectors/transcript.txt");
+const FILES: &[u8] = include_bytes!("../../crates/cbf_transcript/data/cases.bin");
+const TRANSCRIPT: &str = include_str!("../../crates/cbf_transcript/stdout");
 
 fn files() -> Vec<Vec<u8>> {
     let mut files = Vec::new();
@@ -53,13 +53,13 @@ pub fn catalogues() -> Vec<&'static str> {
     catalogues
 }
 
-/// What the transcript says of each file's octets and pixels: the lines that start with `octets` or `unpack`.
-pub fn section_lines() -> Vec<Vec<&'static str>> {
+/// The lines of each case that start with one of these words.
+fn lines(words: &[&str]) -> Vec<Vec<&'static str>> {
     let mut cases: Vec<Vec<&str>> = Vec::new();
     for line in TRANSCRIPT.lines() {
         if line.starts_with("case ") {
             cases.push(Vec::new());
-        } else if line.starts_with("octets ") || line.starts_with("unpack ") {
+        } else if words.iter().any(|word| line.starts_with(word)) {
             cases
                 .last_mut()
                 .expect("a case before its lines")
@@ -67,4 +67,14 @@ pub fn section_lines() -> Vec<Vec<&'static str>> {
         }
     }
     cases
+}
+
+/// What the transcript says of each file's octets and pixels.
+pub fn section_lines() -> Vec<Vec<&'static str>> {
+    lines(&["octets ", "unpack "])
+}
+
+/// What the transcript says of replacing each file's frames.
+pub fn replacement_lines() -> Vec<Vec<&'static str>> {
+    lines(&["replace ", "read back ", "order "])
 }

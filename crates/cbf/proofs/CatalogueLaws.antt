@@ -20,11 +20,12 @@ use Rattle.cbf_format.specs.Catalogue.{entries, catalogue, longName}
 use Rattle.cbf_format.proofs.FileLaws.{accepted}
 use Rattle.cbf_format.proofs.PlaceLaws.{long-name-place}
 use Rattle.cbf_format.proofs.ListingLaws.{few-sections}
-use Rattle.cbf.specs.Outcomes.{roomFor, heading, noPlace, foundName, finishedBy, entriesOf, entriesIn, EntriesFit, cataloguedOr, catalogueOutcome, catalogueText}
+use Rattle.cbf_write.specs.Rooms.{roomFor}
+use Rattle.cbf.specs.Outcomes.{heading, noPlace, foundName, finishedBy, entriesOf, entriesIn, EntriesFit, cataloguedOr, catalogueOutcome, catalogueText}
 use Rattle.cbf.specs.declared.entries.Counted.{Counted}
 use Rattle.cbf.specs.declared.entries.Counted.the-variants as C
 use Rattle.cbf_write.proofs.Puts.{Put, put-both, sets-append}
-use Rattle.cbf.proofs.OutcomeLaws.{Says, refusal, no-room, has-room}
+use Rattle.cbf_write.proofs.RoomLaws.{Says, refusal, no-room, has-room}
 use Rattle.cbf.proofs.EntriesLaws.{length-entries}
 
 -- the parts of a heading, put one after the other

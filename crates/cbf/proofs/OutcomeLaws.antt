@@ -16,32 +16,11 @@ use Rattle.cbf_format.specs.Sections as S
 use Rattle.cbf_format.specs.Files as F
 use Rattle.cbf_format.specs.Text.{bytes}
 use Rattle.cbf_format.specs.Listing.{printed, listing}
-use Rattle.cbf.specs.Outcomes.{roomFor, listOutcome, shown, linesOf, linesIn, Fits}
+use Rattle.cbf_write.specs.Rooms.{roomFor}
+use Rattle.cbf_write.proofs.RoomLaws.{Says, refusal, no-room, has-room}
+use Rattle.cbf.specs.Outcomes.{listOutcome, shown, linesOf, linesIn, Fits}
 use Rattle.cbf.specs.declared.lines.Measured.the-variants.{Refused, Length}
 use Rattle.cbf_write.proofs.Puts.{Put, put-both}
-
--- what a call says, and what is then in the output
-abbrev pub Says : Outcome → List ℕ → List ℕ → Outcome → List ℕ → Type 0
-Says o text old said out = (said ≡ o) × (out ≡ written o text old)
-
-pub refusal : (text old : List ℕ) {o : Outcome} {k p : ℕ} → refuses k p ≡ o → Says o text old (refuses k p) old
-unfolding written
-refusal text old e = (e, rw (← e))
-
--- the text, whose length was counted, is answered where there is room for it
-module _ (text old : List ℕ) {o : Outcome} {n : ℕ} (outcome-is : o ≡ roomFor text (length old)) (length-is : n ≡ length text) where
-  pub no-room : length old < n → Says o text old (refuses 15 0) old
-  unfolding roomFor
-  no-room h = refusal text old (sym (outcome-is ∙ rw (lt-leb (length text) (length old) (omega arith))))
-
-  pub has-room : n ≤ length old → Says o text old (gives n) (sets old 0 text)
-  unfolding roomFor written
-  has-room h =
-      let l : length text ≤ length old = omega arith in
-      let z : 0 + length text ≡ length text = zero-add (length text) in
-      let e : sets old 0 text ≡ text ++ drop (length text) old = rw z at (sets-eq text old 0 (omega arith)) in
-      let q : o ≡ gives (length text) = outcome-is ∙ rw (le-leb (length text) (length old) l) in
-      (ap gives length-is ∙ sym q, rw q e)
 
 -- ---- a file that is refused
 

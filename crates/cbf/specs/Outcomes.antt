@@ -15,15 +15,12 @@ use Rattle.cbf_pixels.specs.Octets.{octets}
 use Rattle.cbf_format.specs.Text.{bytes}
 use Rattle.cbf_format.specs.Listing.{printed, spaced, sections, sectionText, listing}
 use Rattle.cbf_format.specs.Catalogue.{labelWidth, entry, entries, catalogue, longName}
+use Rattle.cbf_write.specs.Rooms.{roomFor}
 use Rattle.cbf_reader.specs.declared.step.Section.{Section}
 use Rattle.cbf.specs.declared.entries.Counted.{Counted}
 use Rattle.cbf.specs.declared.entries.Counted.the-variants as C
 use Rattle.cbf.specs.declared.lines.Measured.{Measured}
 use Rattle.cbf.specs.declared.lines.Measured.the-variants.{Refused, Length}
-
--- 15: "lent output shorter than the answer"
-unfoldable pub roomFor : List ℕ → ℕ → Outcome
-roomFor text room = cond (leb (length text) room) (gives (length text)) (refuses 15 0)
 
 -- "Every call on a file reads it first", and gives reading's refusal
 unfoldable pub listOutcome : Reading (Item F.State S.Section) → ℕ → Outcome

@@ -10,6 +10,7 @@ mod write_catalogue;
 use cbf_pixels::Answer;
 use cbf_pixels::Refusal;
 pub use cbf_pixels::pack;
+pub use cbf_replace::replace;
 pub use cbf_sections::OctetsPlace;
 pub use cbf_sections::octets;
 pub use cbf_sections::octets_answer;
@@ -25,7 +26,8 @@ ghost use Rattle.cbf_walk.specs.Reading.{refused};
 ghost use Rattle.cbf_pixels.specs.Answers.{outcome, written};
 ghost use Rattle.cbf_format.specs.Files as F;
 ghost use Rattle.cbf_format.specs.Listing.{listing};
-ghost use Rattle.cbf.specs.Outcomes.{roomFor, listOutcome, shown};
+ghost use Rattle.cbf_write.specs.Rooms.{roomFor};
+ghost use Rattle.cbf.specs.Outcomes.{listOutcome, shown};
 
 // Writes the listing of the file, whose text lines have at most limit characters, to out: reading's refusal, 15, or the listing's length.
 pub fn list(file: &[u8], limit: usize, out: &mut [u8]) -> Answer

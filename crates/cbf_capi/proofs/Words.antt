@@ -35,7 +35,10 @@ use Rattle.cbf_sections.specs.declared.asked.OctetsPlace.{OctetsPlace}
 use Rattle.cbf_sections.specs.declared.asked.OctetsPlace.the-variants as O
 use Rattle.cbf_sections.specs.SectionCalls.{readOutcome, asked, askedOf, octetsFor, octetsOutcome, placeFor, placeOf, octetsPlace, frameOf, frameOutcome}
 use Rattle.cbf_sections.proofs.SectionCallLaws.{placeSays, place-says}
-use Rattle.cbf.specs.Outcomes.{roomFor, listOutcome, cataloguedOr, catalogueOutcome}
+use Rattle.cbf_write.specs.Rooms.{roomFor}
+use Rattle.cbf_format.specs.House.{replacedFile}
+use Rattle.cbf_replace.specs.ReplaceCalls.{frameFits, roomForFile, replacePacked, replaceFitting, replaceFor, replaceOutcome}
+use Rattle.cbf.specs.Outcomes.{listOutcome, cataloguedOr, catalogueOutcome}
 use Rattle.cbf.proofs.CatalogueLaws.{catalogue-short}
 use Rattle.cbf_capi.specs.Words.{packCall, unpackCall, unpackedBy, startFor, startOf, octetsStart, word}
 
@@ -163,6 +166,19 @@ frame-halves file n room =
     picked (isSome (frameOf p)) _ _ (halves (refuses 13 (position p)) (omega arith) (omega (arith, position-in d))) (λ a.
     tested (leb (p .section .description .elements) room) _ 15 (omega arith) (λ b.
     halves (gives (p .section .description .elements)) (omega arith) (omega (arith, few-elements d)))))
+
+pub replace-halves : (file : List ℕ) (n : ℕ) (frame : List ℤ) (room : ℕ) → Halves (replaceOutcome file (read lineLimit file) n frame room)
+unfolding replaceOutcome replaceFitting replacePacked roomForFile
+replace-halves file n frame room = asked-halves file n _ (λ p d l. go p (p .section .description .encoding))
+  where
+    go : (p : Placed) (e : Encoding) → Halves (replaceFor e (p .section .description) frame (replacedFile file p (packByteOffset frame)) room)
+    go p Binary =
+        let new = replacedFile file p (packByteOffset frame) in
+        tested (frameFits (p .section .description) frame) _ 14 (omega arith) (λ a.
+        tested (leb (length (packByteOffset frame)) octetLimit) _ 16 (omega arith) (λ b.
+        tested (leb (length new) fileLimit) _ 15 (omega arith) (λ c.
+        roomed new room (omega (arith, leb-true (length new) fileLimit c)))))
+    go p Base64 = refused 18 (omega arith)
 
 -- ---- where the octets start
 

@@ -15,6 +15,7 @@ ghost use Rattle.cbf_format.specs.Files.{read};
 ghost use Rattle.cbf_format.specs.Listing.{listing};
 ghost use Rattle.cbf.specs.Outcomes.{listOutcome, catalogueOutcome, catalogueText};
 ghost use Rattle.cbf_sections.specs.SectionCalls.{readOutcome, octetsOutcome, frameOutcome, framePixels};
+ghost use Rattle.cbf_replace.specs.ReplaceCalls.{replaceOutcome, replacedBy};
 ghost use Rattle.cbf_capi.specs.Words.{element, compressed, packCall, unpackCall, unpackedBy, octetsStart, word};
 
 pub enum Element {
@@ -155,4 +156,13 @@ pub extern "C" fn cbf_catalogue(file: &[u8], out: &mut [u8]) -> u64
     ensures output { λ _. ⌜ now (out .exit) ≡ written (catalogueOutcome (read lineLimit (now (file .entry))) (length (now (out .entry)))) (catalogueText (read lineLimit (now (file .entry)))) (now (out .entry)) ⌝ }
 {
     word_of(cbf::catalogue(file, LINE_LIMIT, out))
+}
+
+// Writes the file with the frame of a section replaced.
+#[no_mangle]
+pub extern "C" fn cbf_replace(file: &[u8], section: usize, frame: &[i64], out: &mut [u8]) -> u64
+    ensures answer { λ r. ⌜ r ≡ word (replaceOutcome (now (file .entry)) (read lineLimit (now (file .entry))) section (now (frame .entry)) (length (now (out .entry)))) ⌝ }
+    ensures output { λ _. ⌜ now (out .exit) ≡ written (replaceOutcome (now (file .entry)) (read lineLimit (now (file .entry))) section (now (frame .entry)) (length (now (out .entry)))) (replacedBy (now (file .entry)) (read lineLimit (now (file .entry))) section (now (frame .entry))) (now (out .entry)) ⌝ }
+{
+    word_of(cbf::replace(file, LINE_LIMIT, section, frame, out))
 }

@@ -4,7 +4,6 @@ use mathlib.Core.Option.{Option, none, some}
 use mathlib.Core.List.{List, [], _∷_, _++_}
 use Prim.Native.Nat.{ℕ, _+_, _-_}
 use Prim.Native.String.{String}
-use lib.IntN.{pos}
 use lib.ListN.{length, take, drop}
 use Rattle.cbf_walk.specs.Parsers.{bad}
 use Rattle.cbf_walk.specs.Reading.{Item, Reading, refused, good, readF}
@@ -17,11 +16,6 @@ use Rattle.cbf_format.specs.Base64.{symbol, letters, decode}
 use Rattle.cbf_format.specs.Sections.{opening, Section, lastBoundary, afterSpan, closed, binaryData, base64Data, section}
 use Rattle.cbf_format.specs.Files.{State, opened, read, step, due, identified}
 use Rattle.cbf_pixels.specs.Octets as O
-use Rattle.cbf_pixels.specs.Pixels.{widths, packBy, packDifference, packFrom, packByteOffset}
-use Rattle.cbf_pixels.specs.declared.ElementType.the-variants.{S32}
-use Rattle.cbf_pixels.specs.declared.Compression.the-variants.{ByteOffset}
-use Rattle.cbf_format.specs.declared.Encoding.the-variants.{Binary}
-use Rattle.cbf_format.specs.House.{endedLines, houseLines, house}
 use Rattle.cbf_format.specs.Catalogue.{zeros, entry, entries, catalogue}
 use Rattle.cbf_format.specs.Listing.{Placed, position, sections, digitsOf, sectionText, sectionLines, listing}
 
@@ -65,12 +59,6 @@ pub sample-catalogued : catalogueOf (read 80 sample)
     ≡ 0x46 ∷ 0x52 ∷ 0x43 ∷ 0 ∷ 1 ∷ 0 ∷ 1 ∷ 0 ∷ 0x67 ∷ 1 ∷ 0 ∷ 0 ∷ 4 ∷ 0 ∷ 0 ∷ 0 ∷ 2 ∷ 0 ∷ 0 ∷ 0 ∷ 1 ∷ 6 ∷ 0 ∷ 0 ∷ 1 ∷ 0 ∷ 0 ∷ 0 ∷ (zeros 12 ++ (0x61 ∷ zeros 31))
 unfolding sample read readF step due textLine lineEnd octets word semicolonLine headerLine headerLines judge verdict headers lastBoundary afterSpan closed binaryData section identified number sections catalogue entries entry zeros O.octets
 sample-catalogued = refl
-
--- the sample's section replaced by 5 and 205 is itself: house form of its description, with these pixels packed, is its span
-pub sample-house : house (record { encoding = Binary; size = 4; elements = 2; compression = ByteOffset; type = S32; id = some 1; fastest = none; second = none; third = none })
-    (packByteOffset (pos 5 ∷ pos 205 ∷ [])) ≡ take 346 (drop 50 sample)
-unfolding sample house endedLines houseLines digitsOf packByteOffset packFrom packDifference packBy widths O.pick O.half O.bits O.octets
-sample-house = refl
 
 pub sample-cut : read 80 (take 370 sample) ≡ refused 9 363
 unfolding sample read readF step due textLine lineEnd octets word semicolonLine headerLine headerLines judge verdict headers lastBoundary afterSpan closed binaryData section identified number

@@ -8,15 +8,21 @@ use native.Mathlib.Nat.{add-assoc, zero-add, add-zero}
 use native.Mathlib.Omega.{arith}
 use lib.Dec.{ltb, leb·suc-suc}
 use lib.ListN.{length, length-append}
+use lib.IntN.{ℤ}
 use Rattle.cbf_walk.specs.Reading.{good, flat, Good}
-use Rattle.cbf_walk.specs.Edits.{nth, start, edit, exchange, exchangeBoth}
-use Rattle.cbf_walk.proofs.EditLaws.{Plain, Section as Sectional, by-items, nth-same, nth-other, start-before, edit-good, edit-comm}
-use Rattle.cbf_walk.proofs.OrderLaws.{edit-exchange, edits-exchange}
+use Rattle.cbf_walk.specs.Edits.{nth, start, edit, sections as items, exchange, exchangeBoth, outside}
+use Rattle.cbf_walk.proofs.EditLaws.{Plain, Section as Sectional, by-items, nth-in, nth-same, nth-other, start-before, start-past, apart, edit-good, edit-comm}
+use Rattle.cbf_walk.proofs.OrderLaws.{edit-exchange, edits-exchange, edits-outside}
+use Rattle.cbf_pixels.specs.Pixels.{packByteOffset}
+use Rattle.cbf_pixels.proofs.Bounds.{packed-bounds}
+use Rattle.cbf_format.specs.Descriptions.{Description}
 use Rattle.cbf_format.specs.Sections.{fileLimit, Section}
 use Rattle.cbf_format.specs.Files.{due, step, Tree, read, start as beginning}
 use Rattle.cbf_format.specs.Listing.{Placed, sections, numbered}
-use Rattle.cbf_format.specs.House.{house, housedSection, replacedFile}
+use Rattle.cbf_format.specs.House.{house, housedSection, replacedFile, replacedBoth}
 use Rattle.cbf_format.proofs.FileLaws.{step-tame, accepted, accepts, accepted-spans}
+use Rattle.cbf_format.proofs.VerdictLaws.{Known, known}
+use Rattle.cbf_format.proofs.OctetLaws.{data-at}
 use Rattle.cbf_format.proofs.HouseSections.{Fits, house-lawful}
 
 -- ---- the section with a number, and its place
@@ -61,6 +67,36 @@ nth-numbered n its i e = numbered-is n its ∙ ap (placed (start n its)) e
 no-zero : {A : Type 0} (its : Tree) (p : Placed) → numbered 0 (sections 0 its) ≡ some p → A
 unfolding numbered
 no-zero its p e = absurd (Option·none-ne-some p e)
+
+-- the span of a section of an accepted file, and what its headers say
+pub record SpanAt (file : List ℕ) (p : Placed) : Type 0 where
+  pub inside : p .boundary + p .section .width ≤ length file
+  pub short : length file ≤ fileLimit
+  pub is-known : Known (p .section .description)
+
+pub span-at : (limit n : ℕ) (file : List ℕ) (its : Tree) (p : Placed) → read limit file ≡ good its → numbered n (sections 0 its) ≡ some p → SpanAt file p
+span-at limit zero file its p r e = no-zero its p e
+span-at limit (suc n) file its p r e =
+    let a = accepted limit file its r in
+    let at = numbered-nth n its p e in
+    let d = data-at limit (suc n) file its p r e .described in
+    record {
+      inside = omega (
+        arith,
+        apart (λ (i : Section). i .width) its n (items its) (p .section) (nth-in its n (p .section) (at .0)) (at .0) (accepted-spans limit file its a),
+        start-past its (items its) (omega arith),
+        ap length (a .whole),
+        at .1,
+      );
+      short = a .not-long;
+      is-known = known (d .0) (p .section .description) (d .1);
+    }
+
+-- "Fits: as many pixels as elements": the packed frame is then as long as a section's octets may be
+pub packed-fits : (d : Description) (frame : List ℤ) → Known d → length frame ≡ d .elements → Fits d (packByteOffset frame)
+packed-fits d frame k e =
+    let b = packed-bounds frame in
+    record { is-known = k; low = omega (arith, e); high = omega (arith, e); small = omega (arith, e, k .few) }
 
 -- ---- the tree of a file with a section replaced
 
@@ -142,10 +178,6 @@ replaced-read limit (suc n) file its p os h r e f l =
 
 -- ---- two replacements
 
--- section n of a tree is this one
-abbrev pub SectionIs : ℕ → Tree → Section → Type 0
-SectionIs n its i = (p : Placed) × (numbered n (sections 0 its) ≡ some p) × (p .section ≡ i)
-
 -- a file is read, with a section as number n that is replaced next, which gives the file `both`
 pub record Next (limit n : ℕ) (file : List ℕ) (i : Section) (os both : List ℕ) : Type 0 where
   pub tree : Tree
@@ -155,18 +187,24 @@ pub record Next (limit n : ℕ) (file : List ℕ) (i : Section) (os both : List 
   pub same-section : found .section ≡ i
   pub gives : replacedFile file found os ≡ both
 
--- the file with two sections replaced
-abbrev pub replacedBoth : List ℕ → ℕ → Placed → List ℕ → ℕ → Placed → List ℕ → List ℕ
-replacedBoth file i p os j q os′ =
-    exchangeBoth (ltb i j) file (p .boundary) (p .section .width) (house (p .section .description) os) (q .boundary) (q .section .width) (house (q .section .description) os′)
+-- what is read of the file with two sections replaced: both in house form, and outside their spans what was outside before
+pub record ReadBoth (limit : ℕ) (file : List ℕ) (i : ℕ) (p : Placed) (os : List ℕ) (j : ℕ) (q : Placed) (os′ : List ℕ) : Type 0 where
+  pub tree : Tree
+  pub reads : read limit (replacedBoth file i p os j q os′) ≡ good tree
+  pub first : Placed
+  pub is-first : numbered i (sections 0 tree) ≡ some first
+  pub first-section : first .section ≡ housedSection os (p .section)
+  pub second : Placed
+  pub is-second : numbered j (sections 0 tree) ≡ some second
+  pub second-section : second .section ≡ housedSection os′ (q .section)
+  pub outside-same : outside (ltb i j) (replacedBoth file i p os j q os′) (first .boundary) (first .section .width) (second .boundary) (second .section .width)
+      ≡ outside (ltb i j) file (p .boundary) (p .section .width) (q .boundary) (q .section .width)
 
 -- two replacements in either order give one file, and what is read of it
 pub record Orders (limit : ℕ) (file : List ℕ) (i : ℕ) (p : Placed) (os : List ℕ) (j : ℕ) (q : Placed) (os′ : List ℕ) : Type 0 where
   pub first-then : length (replacedFile file p os) ≤ fileLimit → Next limit j (replacedFile file p os) (q .section) os′ (replacedBoth file i p os j q os′)
   pub second-then : length (replacedFile file q os′) ≤ fileLimit → Next limit i (replacedFile file q os′) (p .section) os (replacedBoth file i p os j q os′)
-  pub read-both : length (replacedBoth file i p os j q os′) ≤ fileLimit
-      → (tree : Tree) × (read limit (replacedBoth file i p os j q os′) ≡ good tree) × SectionIs i tree (housedSection os (p .section))
-      × SectionIs j tree (housedSection os′ (q .section))
+  pub read-both : length (replacedBoth file i p os j q os′) ≤ fileLimit → ReadBoth limit file i p os j q os′
 
 -- section n replaced, then section m
 next : (limit n m : ℕ) (file : List ℕ) (its : Tree) (p q : Placed) (os os′ both : List ℕ) → 48 ≤ limit → read limit file ≡ good its → m ≢ n → IsAt n its p → IsAt m its q
@@ -189,22 +227,28 @@ next limit n m file its p q os os′ both h r d e e′ f w l =
 pub orders : (limit : ℕ) (file : List ℕ) (its : Tree) (i : ℕ) (p : Placed) (os : List ℕ) (j : ℕ) (q : Placed) (os′ : List ℕ) → 48 ≤ limit → read limit file ≡ good its
     → i ≢ j → numbered i (sections 0 its) ≡ some p → numbered j (sections 0 its) ≡ some q → Fits (p .section .description) os → Fits (q .section .description) os′
     → Orders limit file i p os j q os′
+unfolding replacedBoth
 orders limit file its zero p os j q os′ h r d e e′ f f′ = no-zero its p e
 orders limit file its (suc i) p os zero q os′ h r d e e′ f f′ = no-zero its q e′
 orders limit file its (suc i) p os (suc j) q os′ h r d e e′ f f′ =
     record {
-      first-then = next limit i j file its p q os os′ both h r (λ z. apart (sym z)) at at′ f (ap flat (sym comm) ∙ whole);
-      second-then = next limit j i file its q p os′ os both h r apart at′ at f′ whole;
-      read-both = λ l. (
-        tree,
-        tree-read limit i both tree (housedSection os (p .section)) first is-good whole l,
-        (record { boundary = start i tree; section = housedSection os (p .section) }, nth-numbered i tree (housedSection os (p .section)) first, refl),
-        (record { boundary = start j tree; section = housedSection os′ (q .section) }, nth-numbered j tree (housedSection os′ (q .section)) second, refl),
-      );
+      first-then = next limit i j file its p q os os′ both h r (λ z. differ (sym z)) at at′ f (ap flat (sym comm) ∙ whole);
+      second-then = next limit j i file its q p os′ os both h r differ at′ at f′ whole;
+      read-both = λ l. record {
+        tree = tree;
+        reads = tree-read limit i both tree (housedSection os (p .section)) first is-good whole l;
+        first = record { boundary = start i tree; section = housedSection os (p .section) };
+        is-first = nth-numbered i tree (housedSection os (p .section)) first;
+        first-section = refl;
+        second = record { boundary = start j tree; section = housedSection os′ (q .section) };
+        is-second = nth-numbered j tree (housedSection os′ (q .section)) second;
+        second-section = refl;
+        outside-same = kept;
+      };
     }
   where
-    apart : i ≢ j
-    apart z = d (ap suc z)
+    differ : i ≢ j
+    differ z = d (ap suc z)
 
     at : IsAt i its p
     at = numbered-nth i its p e
@@ -219,24 +263,33 @@ orders limit file its (suc i) p os (suc j) q os′ h r d e e′ f f′ =
     tree = replacedTree i os (replacedTree j os′ its)
 
     comm : tree ≡ replacedTree j os′ (replacedTree i os its)
-    comm = edit-comm width (span os) (housedSection os) (span os′) (housedSection os′) its i j apart
+    comm = edit-comm width (span os) (housedSection os) (span os′) (housedSection os′) its i j differ
 
     whole : flat tree ≡ both
     whole =
         let a = accepted limit file its r in
-        edits-exchange width (span os) (housedSection os) (span os′) (housedSection os′) its i j (p .section) (q .section) apart (at .0) (at′ .0) (accepted-spans limit file its a)
+        edits-exchange width (span os) (housedSection os) (span os′) (housedSection os′) its i j (p .section) (q .section) differ (at .0) (at′ .0) (accepted-spans limit file its a)
         ∙ (λ k. exchangeBoth (sym (leb·suc-suc (suc i) j) k) (a .whole k) (at .1 k) (p .section .width) (house (p .section .description) os) (at′ .1 k) (q .section .width)
         (house (q .section .description) os′))
 
+    kept : outside (ltb (suc i) (suc j)) both (start i tree) (length (house (p .section .description) os)) (start j tree) (length (house (q .section .description) os′))
+        ≡ outside (ltb (suc i) (suc j)) file (p .boundary) (p .section .width) (q .boundary) (q .section .width)
+    kept =
+        let a = accepted limit file its r in
+        let b = leb·suc-suc (suc i) j in
+        (λ k. outside (b k) (sym whole k) (start i tree) (length (house (p .section .description) os)) (start j tree) (length (house (q .section .description) os′)))
+        ∙ edits-outside width (span os) (housedSection os) (span os′) (housedSection os′) its i j (p .section) (q .section) differ (at .0) (at′ .0) (accepted-spans limit file its a)
+        ∙ (λ k. outside (sym b k) (a .whole k) (at .1 k) (p .section .width) (at′ .1 k) (q .section .width))
+
     there : nth i (replacedTree j os′ its) ≡ some (p .section)
-    there = nth-other width (span os′) (housedSection os′) its i j apart ∙ at .0
+    there = nth-other width (span os′) (housedSection os′) its i j differ ∙ at .0
 
     first : nth i tree ≡ some (housedSection os (p .section))
     first = nth-same width (span os) (housedSection os) (replacedTree j os′ its) i (p .section) there
 
     second : nth j tree ≡ some (housedSection os′ (q .section))
     second =
-        nth-other width (span os) (housedSection os) (replacedTree j os′ its) j i (λ z. apart (sym z))
+        nth-other width (span os) (housedSection os) (replacedTree j os′ its) j i (λ z. differ (sym z))
         ∙ nth-same width (span os′) (housedSection os′) its j (q .section) (at′ .0)
 
     is-good : Good (step limit) due beginning tree

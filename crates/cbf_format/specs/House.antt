@@ -3,6 +3,7 @@
 use mathlib.Core.Option.{Option, none, some}
 use mathlib.Core.List.{List, [], _∷_, _++_}
 use Prim.Native.Nat.{ℕ, _+_}
+use lib.Dec.{ltb}
 use lib.ListN.{length}
 use Rattle.cbf_pixels.specs.declared.ElementType.{ElementType}
 use Rattle.cbf_pixels.specs.declared.ElementType.the-variants.{U8, S8, U16, S16, U32, S32}
@@ -10,7 +11,7 @@ use Rattle.cbf_pixels.specs.declared.Compression.the-variants.{ByteOffset}
 use Rattle.cbf_format.specs.declared.Encoding.the-variants.{Binary}
 use Rattle.cbf_format.specs.Text.{bytes}
 use Rattle.cbf_format.specs.Descriptions.{Description}
-use Rattle.cbf_walk.specs.Edits.{exchange}
+use Rattle.cbf_walk.specs.Edits.{exchange, exchangeBoth}
 use Rattle.cbf_format.specs.Sections.{opening, closing, marker, Section}
 use Rattle.cbf_format.specs.Listing.{printed, Placed}
 
@@ -85,3 +86,9 @@ housedSection os i =
 unfoldable pub replacedFile : List ℕ → Placed → List ℕ → List ℕ
 unfolding exchange
 replacedFile file p os = exchange file (p .boundary) (p .section .width) (house (p .section .description) os)
+
+-- the file with the spans of the sections i and j exchanged, each for its house form with these octets
+unfoldable pub replacedBoth : List ℕ → ℕ → Placed → List ℕ → ℕ → Placed → List ℕ → List ℕ
+unfolding exchangeBoth
+replacedBoth file i p os j q os′ =
+    exchangeBoth (ltb i j) file (p .boundary) (p .section .width) (house (p .section .description) os) (q .boundary) (q .section .width) (house (q .section .description) os′)

@@ -6,6 +6,7 @@ use mathlib.Core.List.{List, [], _∷_, _++_}
 use mathlib.Core.Bool.{Bool, true, false}
 use lib.Dec.{leb}
 use lib.ListN.{length, drop}
+use lib.Seq.{sets, sets-eq}
 use lib.IntN.{ℤ, pos, negsuc, natAbs}
 use lib.Signed.{leZ, mag}
 use borrow.Author.Tests.{le-leb, lt-leb}
@@ -90,7 +91,7 @@ module _ (t : ElementType) (ps : List ℤ) (out : List ℕ) where
       go true q = let w : length (packByteOffset ps) ≡ n = cc in (refl, w)
       go false q = let z : _≡_ {A = ℕ} 0 1 = cc in absurd (omega arith)
 
-  outside : Outside ≡ sizeOf t ps → allWithin (least t) (greatest t) ps ≡ false
+  pub outside : Outside ≡ sizeOf t ps → allWithin (least t) (greatest t) ps ≡ false
   unfolding sizeOf pick
   outside e = go (allWithin (least t) (greatest t) ps) e
     where
@@ -111,11 +112,13 @@ module _ (t : ElementType) (ps : List ℤ) (out : List ℕ) where
     unfolding Packed packOutcome packOutput written pick
     pack-no-room l r = let s = measured n e in rw (le-leb (length ps) pixelLimit h, s .0, s .1, le-leb n octetLimit l, lt-leb n (length out) r) (refl, refl)
 
-    pub may-write : n ≤ length out → AllSmall ps × (length (packByteOffset ps) ≤ length out)
+    pub may-write : n ≤ length out → AllSmall ps × (0 + length (packByteOffset ps) ≤ length out)
     may-write r = let s = measured n e in (all-small t ps (s .0), omega (arith, s .1))
 
-    pub pack-done : (out′ : List ℕ) → n ≤ octetLimit → n ≤ length out → out′ ≡ packByteOffset ps ++ drop (length (packByteOffset ps)) out → Packed (gives n) out′
+    pub pack-done : (out′ : List ℕ) → n ≤ octetLimit → n ≤ length out → out′ ≡ sets out 0 (packByteOffset ps) → Packed (gives n) out′
     unfolding Packed packOutcome packOutput written pick
     pack-done out′ l r q =
         let s = measured n e in
-        rw (le-leb (length ps) pixelLimit h, s .0, s .1, le-leb n octetLimit l, le-leb n (length out) r) (refl, q ∙ ap (λ (m : ℕ). packByteOffset ps ++ drop m out) (s .1))
+        let e : 0 + length (packByteOffset ps) ≡ n = omega (arith, s .1) in
+        rw (le-leb (length ps) pixelLimit h, s .0, s .1, le-leb n octetLimit l, le-leb n (length out) r)
+        (refl, q ∙ sets-eq (packByteOffset ps) out 0 (omega (arith, s .1)) ∙ ap (λ (m : ℕ). packByteOffset ps ++ drop m out) e)

@@ -327,9 +327,9 @@ module _ {ps : List ℤ} {k : ℕ} {last : ℤ} {n : ℕ} (v : InWindow ps k las
 
 -- ---- all pixels
 
-pub all-writable : (ps : List ℤ) (out : List ℕ) → AllSmall ps → length (packByteOffset ps) ≤ length out → Writable ps 0 (length ps) (pos 0) out 0
+pub all-writable : (ps : List ℤ) (out : List ℕ) (at : ℕ) → AllSmall ps → at + length (packByteOffset ps) ≤ length out → Writable ps 0 (length ps) (pos 0) out at
 unfolding packByteOffset
-all-writable ps out a h =
+all-writable ps out at a h =
     record {
       small = a;
       before = omega arith;
@@ -337,12 +337,9 @@ all-writable ps out a h =
       room = omega (arith, ap (λ (l : List ℤ). length (packFrom (pos 0) l)) (take-length ps));
     }
 
-pub all-wrote : {ps : List ℤ} {out out′ : List ℕ} {next : ℕ} → Wrote ps 0 (length ps) (pos 0) out 0 out′ next → length (packByteOffset ps) ≤ length out → out′ ≡ packByteOffset ps ++ drop (length (packByteOffset ps)) out
+pub all-wrote : {ps : List ℤ} {out out′ : List ℕ} {at next : ℕ} → Wrote ps 0 (length ps) (pos 0) out at out′ next
+    → (next ≡ at + length (packByteOffset ps))
+    × (out′ ≡ sets out at (packByteOffset ps))
 unfolding packByteOffset
-all-wrote {ps} {out} w h =
-    let os = packFrom (pos 0) ps in
-    let e : 0 + length os ≡ length os = omega arith in
-    w .octets
-    ∙ ap (λ (l : List ℤ). sets out 0 (packFrom (pos 0) l)) (take-length ps)
-    ∙ sets-eq os out 0 (omega arith)
-    ∙ ap (λ (i : ℕ). os ++ drop i out) e
+all-wrote {ps} {out} {at} w =
+    (w .after ∙ ap (λ (l : List ℤ). at + length (packFrom (pos 0) l)) (take-length ps), w .octets ∙ ap (λ (l : List ℤ). sets out at (packFrom (pos 0) l)) (take-length ps))

@@ -11,8 +11,11 @@ mod window;
 mod write;
 
 pub use fill::fill_part;
+pub use measure::Size;
+pub use measure::octet_count;
 pub use uncompressed::octets_per;
 pub use validate::validate_part;
+pub use write::write_octets;
 ghost use mathlib.Core.Path.{_≡_};
 ghost use Prim.Native.Nat.{_≤_};
 ghost use lib.ListN.{length};
@@ -76,17 +79,17 @@ pub fn pack(kind: ElementType, pixels: &[i64], out: &mut [u8]) -> Answer
     if 67108864 < pixels.len() {
         return refused(14);
     }
-    let size = measure::measure(kind, pixels);
+    let size = measure::octet_count(kind, pixels);
     match size {
-        measure::Size::Outside => refused(14),
-        measure::Size::Octets(n) => {
+        Size::Outside => refused(14),
+        Size::Octets(n) => {
             if 1073741824 < n {
                 return refused(16);
             }
             if out.len() < n {
                 return refused(15);
             }
-            write::write(pixels, out);
+            write::write_octets(pixels, out, 0);
             Answer::Length(n)
         }
     }

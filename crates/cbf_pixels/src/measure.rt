@@ -163,7 +163,7 @@ pub enum Size {
 }
 
 // The octets of all pixels, of which there are at most the pixel limit.
-pub fn measure(kind: ElementType, pixels: &[i64]) -> Size
+pub fn octet_count(kind: ElementType, pixels: &[i64]) -> Size
     requires { ⌜ length (now pixels) ≤ 67108864 ⌝ }
     ensures { λ r. ⌜ r ≡ sizeOf kind (now (pixels .entry)) ⌝ }
 {

@@ -166,13 +166,14 @@ fn write_few(pixels: &[i64], k: usize, n: usize, last: i64, out: &mut [u8], at: 
     write_32(pixels, k, last, out, at)
 }
 
-// The octets of all pixels, written to the front of out.
-pub fn write(pixels: &[i64], out: &mut [u8])
-    requires { ⌜ AllSmall (now pixels) × (length (packByteOffset (now pixels)) ≤ length (now out)) ⌝ }
-    ensures { λ _. ⌜ now (out .exit) ≡ packByteOffset (now (pixels .entry)) ++ drop (length (packByteOffset (now (pixels .entry)))) (now (out .entry)) ⌝ }
+// The octets of all pixels, written to out from start on; the place after them.
+pub fn write_octets(pixels: &[i64], out: &mut [u8], start: usize) -> usize
+    requires { ⌜ AllSmall (now pixels) × (start + length (packByteOffset (now pixels)) ≤ length (now out)) ⌝ }
+    ensures { λ r. ⌜ r ≡ start + length (packByteOffset (now (pixels .entry))) ⌝ }
+    ensures { λ _. ⌜ now (out .exit) ≡ sets (now (out .entry)) start (packByteOffset (now (pixels .entry))) ⌝ }
 {
     let mut last: i64 = 0;
-    let mut at: usize = 0;
+    let mut at = start;
     let mut k: usize = 0;
     while k < pixels.len() {
         let mut n = window::window_run(pixels, k, last);
@@ -186,4 +187,5 @@ pub fn write(pixels: &[i64], out: &mut [u8])
         k += n;
         last = pixels[k - 1];
     }
+    at
 }

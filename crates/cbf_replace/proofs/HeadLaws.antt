@@ -2,9 +2,8 @@
 use mathlib.Core.Path.{_≡_, refl, ap, _∙_, sym}
 use mathlib.Core.Option.{Option, none, some}
 use mathlib.Core.List.{List, [], _∷_, _++_, append-assoc, append-nil}
-use Prim.Native.Nat.{ℕ, _+_, _≤_, _<_}
+use Prim.Native.Nat.{ℕ, zero, suc, _+_, _≤_, _<_}
 use native.Mathlib.Omega.{arith}
-use borrow.Author.Tests.{ne-eqb}
 use lib.ListN.{length, length-append}
 use lib.Seq.{length-sets}
 use Rattle.cbf_pixels.specs.declared.ElementType.{ElementType}
@@ -14,8 +13,9 @@ use Rattle.cbf_format.specs.Descriptions as D
 use Rattle.cbf_format.specs.Sections.{opening, marker}
 use Rattle.cbf_format.specs.Listing.{printed}
 use Rattle.cbf_format.specs.House.{ended, endedLines, numberLine, houseLines, typeWords}
+use Rattle.cbf_reader.specs.Found.{optional}
 use Rattle.cbf_write.proofs.Puts.{Put, put-both}
-use Rattle.cbf_replace.specs.HeadTexts.{headText, lineText, present}
+use Rattle.cbf_replace.specs.HeadTexts.{headText, lineText}
 
 -- ---- pieces, written one after the other
 
@@ -59,11 +59,12 @@ module _ {old : List ℕ} {at : ℕ} {text : List ℕ} where
 
 -- ---- a line with a number
 
-pub present-none : (n : ℕ) → n ≡ 0 → present n ≡ none
-present-none n e = rw e refl
+pub optional-none : (n : ℕ) → n ≡ 0 → optional n ≡ none
+optional-none n e = rw e refl
 
-pub present-some : (n : ℕ) → 0 < n → present n ≡ some n
-present-some n h = rw (ne-eqb n 0 (λ e. omega arith)) refl
+pub optional-some : (n : ℕ) → 0 < n → optional n ≡ some n
+optional-some zero h = absurd (omega arith)
+optional-some (suc n) h = refl
 
 module _ (name : List ℕ) where
   pub no-line : lineText name none ≡ []

@@ -1,2 +1,5 @@
 -- The laws that the proofs of the functions use.
 pub mod HeadLaws
+pub mod NewFileLaws
+pub mod ReplaceLaws
+pub mod Examples

@@ -1,2 +1,4 @@
 -- What replacement answers, and the file that it gives.
+pub mod ReplaceCalls
 pub mod HeadTexts
+pub mod NewFiles

@@ -7,7 +7,8 @@ ghost use Prim.Native.Nat.{_+_, _≤_};
 ghost use lib.ListN.{length};
 ghost use lib.Seq.{sets};
 ghost use Rattle.cbf_format.specs.House.{typeWords};
-ghost use Rattle.cbf_replace.specs.HeadTexts.{present, described, headText, lineText};
+ghost use Rattle.cbf_reader.specs.Found.{optional};
+ghost use Rattle.cbf_replace.specs.HeadTexts.{described, headText, lineText};
 
 fn type_length(kind: ElementType) -> usize
     ensures { λ r. ⌜ r ≡ length (typeWords kind) ⌝ }
@@ -51,7 +52,7 @@ fn put_line(out: &mut [u8], at: usize, name: &[u8], n: u64) -> usize
 // The length of a line with a number, whose name has that many bytes; 0 has no line.
 fn optional_length(name: &[u8], n: u64) -> usize
     requires { ⌜ length (now name) ≤ 80 ⌝ }
-    ensures { λ r. ⌜ (r ≡ length (lineText (now (name .entry)) (present n))) × (r ≤ 102) ⌝ }
+    ensures { λ r. ⌜ (r ≡ length (lineText (now (name .entry)) (optional n))) × (r ≤ 102) ⌝ }
 {
     if n == 0 {
         return 0;
@@ -60,9 +61,9 @@ fn optional_length(name: &[u8], n: u64) -> usize
 }
 
 fn put_optional(out: &mut [u8], at: usize, name: &[u8], n: u64) -> usize
-    requires { ⌜ at + length (lineText (now name) (present n)) ≤ length (now out) ⌝ }
-    ensures { λ r. ⌜ r ≡ at + length (lineText (now (name .entry)) (present n)) ⌝ }
-    ensures { λ _. ⌜ now (out .exit) ≡ sets (now (out .entry)) at (lineText (now (name .entry)) (present n)) ⌝ }
+    requires { ⌜ at + length (lineText (now name) (optional n)) ≤ length (now out) ⌝ }
+    ensures { λ r. ⌜ r ≡ at + length (lineText (now (name .entry)) (optional n)) ⌝ }
+    ensures { λ _. ⌜ now (out .exit) ≡ sets (now (out .entry)) at (lineText (now (name .entry)) (optional n)) ⌝ }
 {
     if n == 0 {
         return at;

@@ -1,5 +1,6 @@
-// Replacing the frame of a section: a copy of the file with the section's span in house form.
+// Replacing the frame of a section: a copy of the file with the section's span in house form. What is answered is in specs/.
 mod head;
+mod new_file;
+mod replace_frame;
 
-pub use head::head_length;
-pub use head::put_head;
+pub use replace_frame::replace;

@@ -196,11 +196,11 @@ pub said-of : {file : List ℕ} {s : Section} {os : List ℕ} {o : Outcome} (old
 said-of old e u = (λ p f. rw (← (e p f)) (u .0), λ p f. rw (← (e p f)) (u .1))
 
 -- what is asked of the section
-asked-found : (r : Reading (Item F.State S.Section)) (n : ℕ) (p : Placed) (f : Placed → Outcome) → found r n ≡ some p → asked r n f ≡ f p
+pub asked-found : (r : Reading (Item F.State S.Section)) (n : ℕ) (p : Placed) (f : Placed → Outcome) → found r n ≡ some p → asked r n f ≡ f p
 asked-found (refused k q) n p f e = absurd (Option·none-ne-some p e)
 asked-found (good its) n p f e = rw e
 
-asked-refused : (file : List ℕ) (n : ℕ) (r : Reading (Item F.State S.Section)) (t : Refusal) (f : Placed → Outcome) → NumberedSays file n r (N.Refused t)
+pub asked-refused : (file : List ℕ) (n : ℕ) (r : Reading (Item F.State S.Section)) (t : Refusal) (f : Placed → Outcome) → NumberedSays file n r (N.Refused t)
     → refuses (t .number) (t .place) ≡ asked r n f
 asked-refused file n (refused k p) t f e = cc
 asked-refused file n (good its) t f e = go (numbered n (sections 0 its)) e

@@ -4,16 +4,16 @@ use mathlib.Core.Logic.{_≢_}
 use mathlib.Core.Option.{some, Option·none-ne-some}
 use mathlib.Core.Bool.{Bool, true, false}
 use mathlib.Core.List.{List, _++_, append-assoc}
-use Prim.Native.Nat.{ℕ, zero, suc, _+_, _<_}
+use Prim.Native.Nat.{ℕ, zero, suc, _+_, _-_, _≤_, _<_}
 use native.Mathlib.Nat.{not-suc-le-zero, add-assoc, zero-add}
 use native.Mathlib.Omega.{arith}
 use lib.Dec.{ltb}
 use borrow.Author.Tests.{ltb-true, ltb-false}
-use lib.ListN.{length, take, drop}
-use lib.Seq.{take-append-add, drop-append-add, drop-append-le}
+use lib.ListN.{length, take, drop, length-append}
+use lib.Seq.{slice, take-append-add, drop-append-add, drop-append-le, take-at, drop-at, length-take-le, length-slice}
 use Rattle.cbf_walk.specs.Reading.{Item, flat}
-use Rattle.cbf_walk.specs.Edits.{nth, start, edit, Spans, exchange, exchangeTwo, exchangeBoth}
-use Rattle.cbf_walk.proofs.EditLaws.{Plain, Section, by-items, flat-edit, edit-comm}
+use Rattle.cbf_walk.specs.Edits.{nth, start, edit, Spans, exchange, exchangeTwo, exchangeBoth, without, outside}
+use Rattle.cbf_walk.proofs.EditLaws.{Plain, Section, by-items, start-in, start-before, start-after, apart, flat-edit, edit-comm}
 
 -- the same exchanges, with bytes before
 further-two : (b F E x y : List ℕ) (k c k′ c′ : ℕ) → E ≡ exchangeTwo F k c x k′ c′ y → b ++ E ≡ exchangeTwo (b ++ F) (length b + k) c x (length b + k′) c′ y
@@ -61,6 +61,40 @@ module _ {St Info : Type 0} (width : Info → ℕ) (w : Info → List ℕ) (v : 
           (ap (λ (z : List ℕ). w a ++ z) (sym (append-assoc (drop (width a) (it .bytes)) (take (start n its) F) _)))
       go it a its ih (suc m) (suc n) i j h e e′ g = plain it its ih m n i j (omega arith) e e′ (tt, g .1)
 
+-- what is left of a file with bytes exchanged without the new ones
+exchange-without : (file n n′ : List ℕ) (p k p′ k′ P′ : ℕ) → p + k ≤ p′ → p′ ≤ length file → P′ + k ≡ p′ + length n
+    → without (exchangeTwo file p k n p′ k′ n′) p (length n) P′ (length n′) ≡ without file p k p′ k′
+unfolding without exchangeTwo
+exchange-without file n n′ p k p′ k′ P′ h l e =
+    let A = take p file in
+    let B = slice (p + k) p′ file in
+    let C = drop (p′ + k′) file in
+    let a : length A ≡ p = length-take-le p file (omega arith) in
+    let b : length B ≡ p′ - (p + k) = length-slice (p + k) p′ file l in
+    let an : length (A ++ n) ≡ p + length n = omega (arith, length-append A n) in
+    let anb : length ((A ++ n) ++ B) ≡ P′ = omega (arith, length-append (A ++ n) B) in
+    let all : length (((A ++ n) ++ B) ++ n′) ≡ P′ + length n′ = omega (arith, length-append ((A ++ n) ++ B) n′) in
+    let two : A ++ (n ++ (B ++ (n′ ++ C))) ≡ ((A ++ n) ++ B) ++ (n′ ++ C) = simp append-assoc in
+    let three : A ++ (n ++ (B ++ (n′ ++ C))) ≡ (((A ++ n) ++ B) ++ n′) ++ C = simp append-assoc in
+    let x : take p (A ++ (n ++ (B ++ (n′ ++ C)))) ≡ A = take-at A (n ++ (B ++ (n′ ++ C))) p a in
+    let y : slice (p + length n) P′ (A ++ (n ++ (B ++ (n′ ++ C)))) ≡ B =
+    ap (λ (z : List ℕ). drop (p + length n) (take P′ z)) two ∙ ap (drop (p + length n)) (take-at ((A ++ n) ++ B) (n′ ++ C) P′ anb) ∙ drop-at (A ++ n) B (p + length n) an in
+    let z : drop (P′ + length n′) (A ++ (n ++ (B ++ (n′ ++ C)))) ≡ C = ap (drop (P′ + length n′)) three ∙ drop-at (((A ++ n) ++ B) ++ n′) C (P′ + length n′) all in
+    λ r. x r ++ (y r ++ z r)
+
+edits-without : {St Info : Type 0} (width : Info → ℕ) (w : Info → List ℕ) (v : Info → Info) (w′ : Info → List ℕ) (v′ : Info → Info) (its : List (Item St Info)) (m n : ℕ) (i j : Info)
+    → m < n → nth m its ≡ some i → nth n its ≡ some j → Spans width its → let t = edit width w v m (edit width w′ v′ n its) in
+    without (flat t) (start m t) (length (w i)) (start n t) (length (w′ j)) ≡ without (flat its) (start m its) (width i) (start n its) (width j)
+edits-without {St} {Info} width w v w′ v′ its m n i j h e e′ g =
+    let u = edit width w′ v′ n its in
+    let t = edit width w v m u in
+    let near : start m t ≡ start m its = start-before width w v u m m (omega arith) ∙ start-before width w′ v′ its m n (omega arith) in
+    let same : start n t ≡ start n (edit width w v m its) =
+    ap (start n) (edit-comm width w v w′ v′ its m n (λ z. omega arith)) ∙ start-before width w′ v′ (edit width w v m its) n n (omega arith) in
+    let far : start n t + width i ≡ start n its + length (w i) = omega (arith, same, start-after width w v its n m i h e g) in
+    (λ r. without (edits-exchange-two width w v w′ v′ its m n i j h e e′ g r) (near r) (length (w i)) (start n t) (length (w′ j)))
+    ∙ exchange-without (flat its) (w i) (w′ j) (start m its) (width i) (start n its) (width j) (start n t) (apart width its m n i h e g) (start-in its n) far
+
 module _ {St Info : Type 0} (width : Info → ℕ) (w : Info → List ℕ) (v : Info → Info) (w′ : Info → List ℕ) (v′ : Info → Info) where
   -- the file after two edits of two sections
   pub edits-exchange : (its : List (Item St Info)) (m n : ℕ) (i j : Info) → m ≢ n → nth m its ≡ some i → nth n its ≡ some j → Spans width its
@@ -74,3 +108,20 @@ module _ {St Info : Type 0} (width : Info → ℕ) (w : Info → List ℕ) (v : 
       go false q =
           ap flat (edit-comm width w v w′ v′ its m n h)
           ∙ edits-exchange-two width w′ v′ w v its n m j i (omega (arith, ltb-false m n q)) e′ e g
+
+  -- what is outside the two spans of that file, where they stand now, is what was outside them before
+  pub edits-outside : (its : List (Item St Info)) (m n : ℕ) (i j : Info) → m ≢ n → nth m its ≡ some i → nth n its ≡ some j → Spans width its
+      → let t = edit width w v m (edit width w′ v′ n its) in
+      outside (ltb m n) (flat t) (start m t) (length (w i)) (start n t) (length (w′ j)) ≡ outside (ltb m n) (flat its) (start m its) (width i) (start n its) (width j)
+  unfolding outside
+  edits-outside its m n i j h e e′ g = go (ltb m n) refl
+    where
+      t : List (Item St Info)
+      t = edit width w v m (edit width w′ v′ n its)
+
+      go : (b : Bool) → ltb m n ≡ b → outside b (flat t) (start m t) (length (w i)) (start n t) (length (w′ j)) ≡ outside b (flat its) (start m its) (width i) (start n its) (width j)
+      go true q = edits-without width w v w′ v′ its m n i j (ltb-true m n q) e e′ g
+      go false q =
+          let c = edit-comm width w v w′ v′ its m n h in
+          ap (λ (z : List (Item St Info)). without (flat z) (start n z) (length (w′ j)) (start m z) (length (w i))) c
+          ∙ edits-without width w′ v′ w v its n m j i (omega (arith, ltb-false m n q)) e′ e g

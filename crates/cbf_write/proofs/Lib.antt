@@ -1,3 +1,4 @@
 -- The laws of writing to lent memory.
 pub mod Puts
+pub mod RoomLaws
 pub mod DigitLaws

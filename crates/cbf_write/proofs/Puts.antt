@@ -6,7 +6,9 @@ use Prim.Native.Nat.{ℕ, suc, _+_, _≤_, _<_}
 use native.Mathlib.Nat.{add-zero, add-suc, suc-add}
 use native.Mathlib.Omega.{arith}
 use lib.ListN.{length, length-append, length-drop, set, take, drop, getD}
-use lib.Seq.{sets, length-sets, set-set, set-comm, take-suc, take-add, take-all, length-take-le, getD-drop}
+use lib.Dec.{eqb}
+use borrow.Author.Tests.{eqb-true, eqb-false}
+use lib.Seq.{sets, length-sets, set-set, set-comm, take-suc, take-add, take-all, length-take-le, getD-drop, getD-set-same, getD-set-other}
 
 -- stores keep the length, so two lists that stores make equal are as long as each other
 pub puts-length : (new old a b : List ℕ) (at : ℕ) → sets new at a ≡ sets old at b → length new ≡ length old
@@ -75,6 +77,14 @@ module _ {old : List ℕ} {at : ℕ} {s out : List ℕ} {i : ℕ} (c : Copied ol
 
   pub copied-all : length s ≤ i → out ≡ sets old at s
   copied-all h = c .holds ∙ ap (sets old at) (take-all i s h)
+
+-- a turn of a loop that stores f 0, f 1, .. in h
+pub held-more : (h : List ℕ) (f : ℕ → ℕ) (j : ℕ) → j < length h → ((k : ℕ) → k < j → getD h k 0 ≡ f k) → (k : ℕ) → k < j + 1 → getD (set h j (f j)) k 0 ≡ f k
+held-more h f j p e k l = go (eqb k j) refl
+  where
+    go : (b : Bool) → eqb k j ≡ b → getD (set h j (f j)) k 0 ≡ f k
+    go true q = rw (eqb-true k j q) (getD-set-same h j (f j) 0 p)
+    go false q = let d = eqb-false k j q in getD-set-other h j k (f j) 0 d ∙ e k (omega (arith, d))
 
 -- ---- a run over another
 

@@ -7,7 +7,8 @@ use denote.Ref.{now}
 use lib.ListN.{length}
 use Rattle.cbf_walk.specs.Reading.{refused}
 use Rattle.cbf_format.specs.Listing.{listing}
-use Rattle.cbf.proofs.OutcomeLaws.{no-room, has-room, refusal-length, refusal-put}
+use Rattle.cbf.proofs.OutcomeLaws.{refusal-length, refusal-put}
+use Rattle.cbf_write.proofs.RoomLaws.{no-room, has-room}
 use Rattle.cbf.proofs.refusal_line.Statement.{statement}
 use Rattle.cbf.proofs.refusal_line.Tie as tie
 

@@ -2,14 +2,14 @@
 use mathlib.Core.Path.{refl}
 use native.Mathlib.Omega.{arith}
 use borrow.Author.Needs.{needs}
-use Rattle.cbf_replace.proofs.HeadLaws.{present-none, present-some, no-line, line-length}
+use Rattle.cbf_replace.proofs.HeadLaws.{optional-none, optional-some, no-line, line-length}
 use Rattle.cbf_replace.proofs.head.optional_length.Statement.{statement}
 use Rattle.cbf_replace.proofs.head.optional_length.Tie as tie
 
 returns : tie.Need-returns
 returns c =
     let a = c .before .before .args in
-    rw (present-none (a .n) (c .if1 .taken), no-line (a .name .now)) (refl, omega arith)
+    rw (optional-none (a .n) (c .if1 .taken), no-line (a .name .now)) (refl, omega arith)
 
 digit-count-requires : tie.Need-digit-count-requires
 digit-count-requires c κs = search needs
@@ -24,7 +24,7 @@ returns-2 : tie.Need-returns-2
 returns-2 c =
     let s = c .before .before .before in
     let a = s .args in
-    rw (present-some (a .n) (omega (arith, c .before .if1 .left)))
+    rw (optional-some (a .n) (omega (arith, c .before .if1 .left)))
     (omega (arith, line-length (a .name .now) (a .n), c .digit-count .ensures .0), omega (arith, s .pre, c .digit-count .ensures .1))
 
 pub optional-length-spec : {M : Type 1} → statement M

@@ -2,19 +2,19 @@
 use mathlib.Core.Path.{refl}
 use native.Mathlib.Omega.{arith}
 use borrow.Author.Needs.{needs}
-use Rattle.cbf_replace.proofs.HeadLaws.{present-none, present-some, no-line}
+use Rattle.cbf_replace.proofs.HeadLaws.{optional-none, optional-some, no-line}
 use Rattle.cbf_replace.proofs.head.put_optional.Statement.{statement}
 use Rattle.cbf_replace.proofs.head.put_optional.Tie as tie
 
 returns : tie.Need-returns
 returns c =
     let a = c .before .before .before .args in
-    rw (present-none (a .n) (c .if1 .taken), no-line (a .name .now)) (omega arith, refl)
+    rw (optional-none (a .n) (c .if1 .taken), no-line (a .name .now)) (omega arith, refl)
 
 put-line-requires : tie.Need-put-line-requires
 put-line-requires c κs =
     let s = c .before .before .before .before in
-    rw (present-some (s .args .n) (omega arith)) at (s .pre)
+    rw (optional-some (s .args .n) (omega arith)) at (s .pre)
 
 same-length : tie.Need-same-length
 same-length c = search needs
@@ -22,7 +22,7 @@ same-length c = search needs
 returns-2 : tie.Need-returns-2
 returns-2 c =
     let s = c .before .before .before .before .before .before .before in
-    rw (present-some (s .args .n) (omega (arith, c .before .before .before .before .if1 .left))) (c .before .before .put-line .ensures)
+    rw (optional-some (s .args .n) (omega (arith, c .before .before .before .before .if1 .left))) (c .before .before .put-line .ensures)
 
 pub put-optional-spec : {M : Type 1} → statement M
 put-optional-spec = tie.close (tie.spec returns put-line-requires same-length returns-2)

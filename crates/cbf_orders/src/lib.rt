@@ -1,0 +1,73 @@
+// Demand 3: the frames of two sections replaced, in either order, as one statement about the four calls. What is demanded is in specs/.
+use cbf_format::LINE_LIMIT;
+use cbf_pixels::Answer;
+ghost use mathlib.Core.Path.{_≡_};
+ghost use lib.ListN.{length};
+ghost use Rattle.cbf_pixels.specs.Answers.{written};
+ghost use Rattle.cbf_orders.specs.Orders.{replaceCall, newFile, orderOutcome, orderOf, secondWritten, Premises, TwoOrders};
+
+// The second call of an order: it is made only where the first gave a file.
+pub enum Second {
+    NotMade,
+    Made(Answer),
+}
+
+// The answers of the two calls of an order.
+pub struct Order {
+    pub first: Answer,
+    pub second: Second,
+}
+
+pub struct Orders {
+    pub ij: Order,
+    pub ji: Order,
+}
+
+// Replaces section i, and then section j of the file that this gave, up to its length.
+pub fn one_order(
+    file: &[u8],
+    i: usize,
+    f: &[i64],
+    j: usize,
+    g: &[i64],
+    oi: &mut [u8],
+    oij: &mut [u8],
+) -> Order
+    ensures answers { λ r. ⌜ orderOutcome r ≡ orderOf (now (file .entry)) i (now (f .entry)) j (now (g .entry)) (length (now (oi .entry))) (length (now (oij .entry))) ⌝ }
+    ensures first { λ _. ⌜ now (oi .exit) ≡ written (replaceCall (now (file .entry)) i (now (f .entry)) (length (now (oi .entry)))) (newFile (now (file .entry)) i (now (f .entry))) (now (oi .entry)) ⌝ }
+    ensures second { λ _. ⌜ now (oij .exit) ≡ secondWritten (orderOf (now (file .entry)) i (now (f .entry)) j (now (g .entry)) (length (now (oi .entry))) (length (now (oij .entry))) .second) (newFile (newFile (now (file .entry)) i (now (f .entry))) j (now (g .entry))) (now (oij .entry)) ⌝ }
+{
+    let first = cbf::replace(file, LINE_LIMIT, i, f, oi);
+    match first {
+        Answer::Refused(r) => Order {
+            first: first,
+            second: Second::NotMade,
+        },
+        Answer::Length(n) => {
+            let second = cbf::replace(&oi[..n], LINE_LIMIT, j, g, oij);
+            Order {
+                first: first,
+                second: Second::Made(second),
+            }
+        }
+    }
+}
+
+// Both orders: section i first, with its outputs oi and oij, and section j first, with oj and oji.
+pub fn both_orders(
+    file: &[u8],
+    i: usize,
+    f: &[i64],
+    j: usize,
+    g: &[i64],
+    oi: &mut [u8],
+    oij: &mut [u8],
+    oj: &mut [u8],
+    oji: &mut [u8],
+) -> Orders
+    ensures demand_3 { λ r. ⌜ ((h : Premises (now (file .entry)) i (now (f .entry)) j (now (g .entry))) → TwoOrders (now (file .entry)) i (now (f .entry)) (h .at-i) j (now (g .entry)) (h .at-j) (orderOutcome (r .ij)) (orderOutcome (r .ji)) (now (oi .entry)) (now (oi .exit)) (now (oij .entry)) (now (oij .exit)) (now (oj .entry)) (now (oj .exit)) (now (oji .entry)) (now (oji .exit))) ⌝ }
+{
+    let ij = one_order(file, i, f, j, g, oi, oij);
+    let ji = one_order(file, j, g, i, f, oj, oji);
+    Orders { ij: ij, ji: ji }
+}

@@ -1,0 +1,128 @@
+-- `write::write_octets` meets its contract: the loop has written the first k pixels. Assumes nothing.
+use Prim.Native.Nat.{_+_, _-_, _<_, _≤_}
+use native.Mathlib.Omega.{arith}
+use mathlib.Core.Path.{refl}
+use mathlib.Core.Logic.{⊎-elim}
+use lib.IntN.{pos}
+use lib.ListN.{length}
+use mir.Syntax.{w64}
+use mir.Val.{toZ}
+use Rattle.cbf_pixels.specs.Steps.{Writable, Wrote}
+use Rattle.cbf_pixels.proofs.Writing.{wrote-length, wrote-as, Upto, upto-none, upto-writable, upto-more, InWindow, window-room, window-wrote, all-writable, all-wrote}
+use Rattle.cbf_pixels.proofs.write.write_octets.Statement.{statement}
+use Rattle.cbf_pixels.proofs.write.write_octets.Tie as tie
+
+abbrev Inv-loop : tie.InvT-loop
+Inv-loop pixels out₀ start last₀ at₀ k₀ out last at k = Upto pixels 0 (length pixels) (pos 0) out₀ start k out last at
+
+abbrev μ-loop : tie.MeasureT-loop
+μ-loop pixels out₀ start last₀ at₀ k₀ out last at k = length pixels - k
+
+loop-holds : tie.Need-loop-holds Inv-loop μ-loop
+loop-holds c = upto-none refl refl
+
+writable : (s : tie.Start Inv-loop μ-loop) → Writable (s .args .pixels .now) 0 (length (s .args .pixels .now)) (pos 0) (s .args .out .now) (s .args .start)
+writable s = all-writable (s .args .pixels .now) (s .args .out .now) (s .args .start) (s .pre .0) (s .pre .1)
+
+window-run-requires : tie.Need-window-run-requires Inv-loop μ-loop
+window-run-requires c κs = omega arith
+
+sub-part : tie.Need-sub-part Inv-loop μ-loop
+sub-part c = omega arith
+
+part-requires : tie.Need-part-requires Inv-loop μ-loop
+part-requires c κs = tt
+
+write-few-requires : tie.Need-write-few-requires Inv-loop μ-loop
+write-few-requires c κs =
+    let l = c .before .before .before .before .before .loop in
+    let p = c .before .part in (
+      upto-writable (writable (c .before .before .before .before .before .before .before)) (l .inv) (p .result) (l .k) (omega arith) (omega arith),
+      omega arith,
+    )
+
+-- a run that window_run found
+run : (c : tie.After-window-run Inv-loop μ-loop) → InWindow (c .before .before .before .before .args .pixels .now) (c .before .before .loop .k) (toZ w64 (c .before .before .loop .last)) (c .window-run .result)
+run c =
+    let l = c .before .before .loop in
+    let w = upto-writable (writable (c .before .before .before .before)) (l .inv) 0 (l .k) (omega arith) (omega arith) in
+    record { small = w .small; before = w .before; run = c .window-run .ensures }
+
+room : (c : tie.After-window-run Inv-loop μ-loop) → Writable (c .before .before .before .before .args .pixels .now) (c .before .before .loop .k) (c .window-run .result) (toZ w64 (c .before .before .loop .last)) (c .before .before .loop .out) (c .before .before .loop .at)
+room c =
+    let l = c .before .before .loop in
+    upto-writable (writable (c .before .before .before .before)) (l .inv) (c .window-run .result) (l .k) (omega arith) (omega (arith, c .window-run .ensures .inside))
+
+write-run-requires : tie.Need-write-run-requires Inv-loop μ-loop
+write-run-requires c κs =
+    let r = run (c .before .before) in
+    (r .small, r .run, r .before, window-room r (room (c .before .before)))
+
+add-at : tie.Need-add-at Inv-loop μ-loop
+add-at c = omega (arith, window-room (run (c .before .before .before .before .before)) (room (c .before .before .before .before .before)), wrote-length (c .before .before .before .before .before .before .before .loop .inv .wrote))
+
+joined : (c : tie.Joined1 Inv-loop μ-loop) → (0 < c .if1 .n) × (c .before .before .before .loop .k + c .if1 .n ≤ length (c .before .before .before .before .before .args .pixels .now)) × Wrote (c .before .before .before .before .before .args .pixels .now) (c .before .before .before .loop .k) (c .if1 .n) (toZ w64 (c .before .before .before .loop .last)) (c .before .before .before .loop .out) (c .before .before .before .loop .at) (c .if1 .out) (c .if1 .at)
+joined c =
+    ⊎-elim
+    (λ w.
+    let p = w .1 .ensures in
+    let h : 0 < w .1 .result = p .2 (omega arith) in
+    (omega (arith, w .8), omega (arith, w .8, p .0), wrote-as (w .3 .ensures) (w .8) (w .6) (w .7)))
+    (λ w.
+    let r = run (c .before) in
+    (omega (arith, w .0 .left, w .7), omega (arith, w .7, r .run .inside), wrote-as (window-wrote r (w .2 .ensures) refl) (w .7) (w .5) (w .6)))
+    (c .if1 .came)
+
+add-k : tie.Need-add-k Inv-loop μ-loop
+add-k c = omega (arith, joined (c .before) .1)
+
+sub-last : tie.Need-sub-last Inv-loop μ-loop
+sub-last c = omega (arith, joined (c .before) .0)
+
+mul-last : tie.Need-mul-last Inv-loop μ-loop
+mul-last c = omega (arith, joined (c .before) .1)
+
+shared-slice-copy-out-last : tie.Need-shared-slice-copy-out-last Inv-loop μ-loop
+shared-slice-copy-out-last c = omega (arith, joined (c .before) .1, joined (c .before) .0)
+
+loop-less : tie.Need-loop-less Inv-loop μ-loop
+loop-less c = omega (arith, joined (c .before .before) .0)
+
+loop-again : tie.Need-loop-again Inv-loop μ-loop
+loop-again c =
+    let s = c .before .before .before .before .before .before .before in
+    let l = c .before .before .before .before .before .loop in
+    let i = c .before .before .if1 in
+    let j = joined (c .before .before) in
+    let h = j .1 in
+    let p = j .0 in
+    upto-more (writable s) (l .inv) (i .n) (l .k) (omega arith) (omega arith) (l .k + i .n - 1) (omega arith) p (j .2)
+
+same-length : tie.Need-same-length Inv-loop μ-loop
+same-length c = wrote-length (c .before .loop .inv .wrote)
+
+returns : tie.Need-returns Inv-loop μ-loop
+returns c =
+    let l = c .before .loop in all-wrote (wrote-as (l .inv .wrote) (omega (arith, l .inv .few)) refl refl)
+
+pub write-octets-spec : {M : Type 1} → statement M
+write-octets-spec =
+    tie.close
+    (tie.spec
+    Inv-loop
+    μ-loop
+    loop-holds
+    window-run-requires
+    sub-part
+    part-requires
+    write-few-requires
+    write-run-requires
+    add-at
+    add-k
+    sub-last
+    mul-last
+    shared-slice-copy-out-last
+    loop-less
+    loop-again
+    same-length
+    returns)

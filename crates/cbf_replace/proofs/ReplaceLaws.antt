@@ -1,0 +1,117 @@
+-- The section of the code and the section of the file: its span, and the new file. Assumes nothing.
+use mathlib.Core.Path.{_≡_, refl, sym, ap, _∙_, subst}
+use mathlib.Core.Option.{Option, none, some, Option·getD, Option·none-ne-some}
+use mathlib.Core.List.{List}
+use Prim.Native.Nat.{ℕ, zero, suc, _+_, _≤_}
+use native.Mathlib.Omega.{arith}
+use lib.ListN.{length}
+use lib.IntN.{ℤ}
+use Rattle.cbf_walk.specs.Reading.{Item, Reading, refused, good}
+use Rattle.cbf_walk.specs.Edits.{exchange}
+use Rattle.cbf_pixels.specs.Pixels.{packByteOffset}
+use Rattle.cbf_pixels.specs.Answers.{Outcome, refuses, written}
+use Rattle.cbf_pixels.specs.declared.Refusal.{Refusal}
+use Rattle.cbf_format.specs.declared.Encoding.{Encoding}
+use Rattle.cbf_format.specs.declared.Encoding.the-variants.{Binary, Base64}
+use Rattle.cbf_format.specs.Descriptions as D
+use Rattle.cbf_format.specs.Sections as S
+use Rattle.cbf_format.specs.Files as F
+use Rattle.cbf_format.specs.Listing.{Placed, sections, numbered}
+use Rattle.cbf_format.specs.House.{house, replacedFile}
+use Rattle.cbf_format.proofs.VerdictLaws.{Known}
+use Rattle.cbf_format.proofs.ReplacementLaws.{SpanAt, span-at}
+use Rattle.cbf_reader.specs.Found.{optional, descriptionOf}
+use Rattle.cbf_reader.specs.StepPlaces.{sectionAt}
+use Rattle.cbf_reader.specs.WalkPlaces.{SectionOf}
+use Rattle.cbf_reader.specs.Surveys.{NumberedSays}
+use Rattle.cbf_reader.specs.declared.step.Section.{Section}
+use Rattle.cbf_reader.specs.declared.survey.Numbered.the-variants as N
+use Rattle.cbf_sections.specs.SectionCalls.{found}
+use Rattle.cbf_sections.proofs.SectionCallLaws.{frame-of, asked-found, asked-refused}
+use Rattle.cbf_write.proofs.RoomLaws.{Says, refusal}
+use Rattle.cbf_replace.specs.ReplaceCalls.{replaceFitting, replaceFor, replaceOutcome, replacedBy}
+use Rattle.cbf_replace.specs.HeadTexts.{described}
+use Rattle.cbf_replace.specs.NewFiles.{fileWith, SpanIn}
+use Rattle.cbf_replace.proofs.NewFileLaws.{SaysFitting}
+
+-- ---- the description of the code stands for the one that it was made from
+
+optional-held : (o : Option ℕ) → ((n : ℕ) → o ≡ some n → 1 ≤ n) → optional (Option·getD o 0) ≡ o
+optional-held none h = refl
+optional-held (some zero) h = absurd (omega (arith, h 0 refl))
+optional-held (some (suc n)) h = refl
+
+described-known : (d : D.Description) → Known d → described (descriptionOf d) ≡ d
+described-known d k = λ i. record {
+  encoding = d .encoding;
+  size = d .size;
+  elements = d .elements;
+  compression = d .compression;
+  type = d .type;
+  id = optional-held (d .id) (λ n e. k .id-in n e .0) i;
+  fastest = optional-held (d .fastest) (λ n e. k .fastest-in n e .0) i;
+  second = optional-held (d .second) (λ n e. k .second-in n e .0) i;
+  third = optional-held (d .third) (λ n e. k .third-in n e .0) i;
+}
+
+-- ---- the section of the code
+
+-- the section with a number, as the code has it
+pub record Here (file : List ℕ) (p : Placed) (s : Section) : Type 0 where
+  pub span : SpanIn file s
+  pub encoding : s .description .encoding ≡ p .section .description .encoding
+  pub description : described (s .description) ≡ p .section .description
+  pub new : (os : List ℕ) → fileWith file s os ≡ replacedFile file p os
+
+here : {file : List ℕ} {p : Placed} {s : Section} → SectionOf file p s → SpanAt file p → Here file p s
+unfolding fileWith replacedFile exchange
+here {file} {p} {s} i a =
+    let d = described-known (p .section .description) (a .is-known) in
+    subst (Here file p) (sym (i .fields))
+    (record {
+      span = record { low = omega arith; inside = a .inside; short = a .short; few = a .is-known .few };
+      encoding = refl;
+      description = d;
+      new = λ os. rw d refl;
+    })
+
+found-good : (r : Reading (Item F.State S.Section)) (n : ℕ) (p : Placed) → found r n ≡ some p → (its : F.Tree) × (r ≡ good its) × (numbered n (sections 0 its) ≡ some p)
+found-good (refused k q) n p e = absurd (Option·none-ne-some p e)
+found-good (good its) n p e = (its, refl, e)
+
+pub here-of : (limit n : ℕ) (file : List ℕ) (s : Section) → NumberedSays file n (F.read limit file) (N.As s)
+    → (p : Placed) × (found (F.read limit file) n ≡ some p) × Here file p s
+here-of limit n file s h =
+    let f = frame-of limit n file s h in
+    let g = found-good (F.read limit file) n (f .0) (f .1) in
+    (f .0, f .1, here (f .2 .is) (span-at limit n file (g .0) (f .0) (g .1) (g .2)))
+
+-- ---- what is answered
+
+abbrev pub Replaces : List ℕ → Reading (Item F.State S.Section) → ℕ → List ℤ → List ℕ → Outcome → List ℕ → Type 0
+Replaces file r n frame old said out = Says (replaceOutcome file r n frame (length old)) (replacedBy file r n frame) old said out
+
+pub replace-refused : (file : List ℕ) (n : ℕ) (r : Reading (Item F.State S.Section)) (t : Refusal) (frame : List ℤ) (old : List ℕ) → NumberedSays file n r (N.Refused t)
+    → Replaces file r n frame old (refuses (t .number) (t .place)) old
+unfolding replaceOutcome
+replace-refused file n r t frame old h = refusal (replacedBy file r n frame) old (asked-refused file n r t _ h)
+
+module _ (file : List ℕ) (r : Reading (Item F.State S.Section)) (n : ℕ) (frame : List ℤ) (old : List ℕ) {p : Placed} {s : Section} (at : found r n ≡ some p) (h : Here file p s) where
+  answer : {e : Encoding} → s .description .encoding ≡ e
+      → replaceFor e (p .section .description) frame (replacedFile file p (packByteOffset frame)) (length old) ≡ replaceOutcome file r n frame (length old)
+  unfolding replaceOutcome
+  answer q = rw (sym q ∙ h .encoding) (sym (asked-found r n p _ at))
+
+  file-is : replacedFile file p (packByteOffset frame) ≡ replacedBy file r n frame
+  unfolding replacedBy
+  file-is = sym (rw at refl)
+
+  pub replace-text : s .description .encoding ≡ Base64 → Replaces file r n frame old (refuses 18 0) old
+  replace-text q = refusal (replacedBy file r n frame) old (answer q)
+
+  pub replace-binary : {said : Outcome} {out : List ℕ} → s .description .encoding ≡ Binary
+      → SaysFitting (described (s .description)) frame (fileWith file s (packByteOffset frame)) old said out → Replaces file r n frame old said out
+  replace-binary {said} {out} q u =
+      let v = rw (h .description, h .new (packByteOffset frame)) at u in
+      subst (λ (z : Outcome). Says z (replacedBy file r n frame) old said out) (answer q)
+      (subst (λ (z : List ℕ). Says (replaceFitting (p .section .description) frame (replacedFile file p (packByteOffset frame)) (length old)) z old said out) file-is v)

@@ -1,0 +1,57 @@
+-- What replacement answers, by document 01's numbers: reading's refusal, then "12, 18, 14, 16, 15"; and the file that it gives.
+use mathlib.Core.Option.{Option, none, some}
+use mathlib.Core.Bool.{Bool, _&&_}
+use mathlib.Core.List.{List, []}
+use Prim.Native.Nat.{ℕ}
+use lib.Dec.{leb, eqb}
+use lib.ListN.{length}
+use lib.IntN.{ℤ}
+use Rattle.cbf_walk.specs.Reading.{Item, Reading}
+use Rattle.cbf_pixels.specs.Octets.{pick}
+use Rattle.cbf_pixels.specs.Pixels.{least, greatest, allWithin, packByteOffset}
+use Rattle.cbf_pixels.specs.Answers.{Outcome, gives, refuses, octetLimit}
+use Rattle.cbf_format.specs.declared.Encoding.{Encoding}
+use Rattle.cbf_format.specs.declared.Encoding.the-variants.{Binary, Base64}
+use Rattle.cbf_format.specs.Descriptions.{Description}
+use Rattle.cbf_format.specs.Sections.{fileLimit, Section}
+use Rattle.cbf_format.specs.Files.{State}
+use Rattle.cbf_format.specs.Listing.{Placed}
+use Rattle.cbf_format.specs.House.{replacedFile}
+use Rattle.cbf_write.specs.Rooms.{roomFor}
+use Rattle.cbf_sections.specs.SectionCalls.{found, asked}
+
+-- "Fits: as many pixels as elements, each inside the integer type"
+unfoldable pub frameFits : Description → List ℤ → Bool
+frameFits d frame = eqb (length frame) (d .elements) && allWithin (least (d .type)) (greatest (d .type)) frame
+
+-- 15: "lent output shorter than the answer, or result file too long"
+unfoldable pub roomForFile : List ℕ → ℕ → Outcome
+unfolding pick roomFor
+roomForFile new room = pick (leb (length new) fileLimit) (roomFor new room) (refuses 15 0)
+
+-- 16: "packed frame over 1,073,741,824 octets"
+unfoldable pub replacePacked : List ℕ → List ℕ → ℕ → Outcome
+unfolding pick roomForFile
+replacePacked os new room = pick (leb (length os) octetLimit) (roomForFile new room) (refuses 16 0)
+
+-- 14: "new frame of wrong count .. or a pixel outside the type"
+unfoldable pub replaceFitting : Description → List ℤ → List ℕ → ℕ → Outcome
+unfolding pick frameFits replacePacked
+replaceFitting d frame new room = pick (frameFits d frame) (replacePacked (packByteOffset frame) new room) (refuses 14 0)
+
+-- 18: "replacement asked of a BASE64 section"
+abbrev pub replaceFor : Encoding → Description → List ℤ → List ℕ → ℕ → Outcome
+replaceFor Binary d frame new room = replaceFitting d frame new room
+replaceFor Base64 d frame new room = refuses 18 0
+
+unfoldable pub replaceOutcome : List ℕ → Reading (Item State Section) → ℕ → List ℤ → ℕ → Outcome
+replaceOutcome file r n frame room =
+    asked r n (λ p. let d = p .section .description in replaceFor (d .encoding) d frame (replacedFile file p (packByteOffset frame)) room)
+
+abbrev pub newFile : List ℕ → Option Placed → List ℤ → List ℕ
+newFile file none frame = []
+newFile file (some p) frame = replacedFile file p (packByteOffset frame)
+
+-- the file with the section's span in house form with the frame
+unfoldable pub replacedBy : List ℕ → Reading (Item State Section) → ℕ → List ℤ → List ℕ
+replacedBy file r n frame = newFile file (found r n) frame

@@ -1,0 +1,2 @@
+-- Room for an answer.
+pub mod Rooms
