@@ -1,16 +1,13 @@
 -- What is answered where the lent output has room for a text and where it has not, for the listing of a file and for the line of a refusal. Assumes nothing.
-use mathlib.Core.Path.{_≡_, refl, sym, ap, _∙_}
+use mathlib.Core.Path.{_≡_, refl, sym, _∙_}
 use mathlib.Core.Bool.{Bool, true, false}
 use mathlib.Core.List.{List, [], _∷_, _++_}
 use Prim.Native.Nat.{ℕ, _+_, _≤_, _<_}
 use native.Mathlib.Omega.{arith}
-use native.Mathlib.Nat.{zero-add}
-use borrow.Author.Tests.{le-leb, lt-leb}
-use lib.ListN.{length, length-append, drop}
-use lib.Seq.{sets, sets-eq}
+use lib.ListN.{length, length-append}
 use Rattle.cbf_walk.specs.Reading.{Item, Reading, refused, good}
 use Rattle.cbf_walk.proofs.ReadingLaws.{refused≢good}
-use Rattle.cbf_pixels.specs.Answers.{Outcome, gives, refuses, written}
+use Rattle.cbf_pixels.specs.Answers.{gives, refuses, written}
 use Rattle.cbf_pixels.specs.declared.Refusal.{Refusal}
 use Rattle.cbf_format.specs.Sections as S
 use Rattle.cbf_format.specs.Files as F

@@ -5,7 +5,7 @@ use mathlib.Core.Bool.{Bool, true, false, cond}
 use mathlib.Core.List.{List, [], _∷_, _++_}
 use Prim.Native.Nat.{ℕ, _+_, _*_, _≤_}
 use lib.Dec.{leb, ltb, eqb}
-use lib.ListN.{length, drop}
+use lib.ListN.{length}
 use lib.Seq.{slice, sets}
 use Rattle.cbf_walk.specs.Reading.{Item, Reading, refused, good}
 use Rattle.cbf_pixels.specs.Answers.{Outcome, gives, refuses}

@@ -1,12 +1,12 @@
 -- Demand 3 over the definitions of the calls. Assumes nothing.
-use mathlib.Core.Path.{_≡_, refl, sym, ap, _∙_, subst}
-use mathlib.Core.Option.{Option, none, some}
+use mathlib.Core.Path.{_≡_, refl, sym, ap, _∙_}
+use mathlib.Core.Option.{Option, some}
 use mathlib.Core.Bool.{Bool, true, false, cond}
-use mathlib.Core.List.{List, _++_}
-use Prim.Native.Nat.{ℕ, _≤_, _<_}
+use mathlib.Core.List.{List}
+use Prim.Native.Nat.{ℕ, _≤_}
 use native.Mathlib.Omega.{arith}
 use lib.Dec.{leb}
-use borrow.Author.Tests.{leb-true, leb-false, le-leb, lt-leb, eqb-true}
+use borrow.Author.Tests.{leb-true, le-leb, lt-leb, eqb-true}
 use lib.ListN.{length, take, drop}
 use lib.Seq.{take-at}
 use lib.IntN.{ℤ}
@@ -21,15 +21,15 @@ use Rattle.cbf_format.specs.Lines.{lineLimit}
 use Rattle.cbf_format.specs.Descriptions.{Description}
 use Rattle.cbf_format.specs.Sections.{fileLimit, Section}
 use Rattle.cbf_format.specs.Files.{Tree, read}
-use Rattle.cbf_format.specs.Listing.{Placed, sections, numbered, position}
-use Rattle.cbf_format.specs.House.{housedSection, replacedFile}
+use Rattle.cbf_format.specs.Listing.{Placed, sections, numbered}
+use Rattle.cbf_format.specs.House.{housedSection}
 use Rattle.cbf_format.proofs.LineTame.{and-true}
-use Rattle.cbf_format.proofs.ReplacementLaws.{SpanAt, span-at, packed-fits, Next, ReadBoth, Orders, orders}
+use Rattle.cbf_format.proofs.ReplacementLaws.{SpanAt, span-at, packed-fits, Next, Orders, orders}
 use Rattle.cbf_sections.specs.SectionCalls.{found, frameOf, frameFor, frameOutcome, framePixels}
 use Rattle.cbf_sections.proofs.SectionCallLaws.{asked-found}
 use Rattle.cbf_write.specs.Rooms.{roomFor}
-use Rattle.cbf_replace.specs.ReplaceCalls.{frameFits, roomForFile, replacePacked, replaceFitting, replaceFor, replaceOutcome, replacedBy}
-use Rattle.cbf_orders.specs.Orders.{replaceCall, newFile, OrderOutcome, secondCall, orderOf, secondWritten, Premises, Room, CallSays, SecondSays, ReadsBack, OutsideKept, one, both, TwoOrders}
+use Rattle.cbf_replace.specs.ReplaceCalls.{frameFits, roomForFile, replacePacked, replaceFitting, replaceOutcome, replacedBy}
+use Rattle.cbf_orders.specs.Orders.{replaceCall, newFile, OrderOutcome, secondCall, orderOf, secondWritten, Premises, Room, CallSays, SecondSays, ReadsBack, one, both, TwoOrders}
 
 -- ---- one call
 

@@ -1,16 +1,15 @@
 -- The pieces of the new file, its length, and what is answered where it has room and where it has not. Assumes nothing.
-use mathlib.Core.Path.{_≡_, refl, sym, ap, _∙_}
-use mathlib.Core.Bool.{Bool, true, false, _&&_, cond}
+use mathlib.Core.Path.{_≡_, refl, sym, ap}
+use mathlib.Core.Bool.{false}
 use mathlib.Core.List.{List, [], _∷_, _++_, append-assoc, append-nil}
 use Prim.Native.Nat.{ℕ, _+_, _-_, _≤_, _<_}
 use native.Mathlib.Omega.{arith}
 use borrow.Author.Tests.{le-leb, lt-leb, eq-eqb, ne-eqb}
-use lib.Dec.{leb, eqb}
 use lib.ListN.{length, take, drop, length-append, length-drop}
 use lib.Seq.{sets, take-all, length-take-le}
 use lib.IntN.{ℤ}
 use Rattle.cbf_pixels.specs.Octets.{pick}
-use Rattle.cbf_pixels.specs.Pixels.{least, greatest, allWithin, packByteOffset}
+use Rattle.cbf_pixels.specs.Pixels.{packByteOffset}
 use Rattle.cbf_pixels.specs.Answers.{Outcome, gives, refuses, octetLimit}
 use Rattle.cbf_pixels.specs.Steps.{sizeOf}
 use Rattle.cbf_pixels.specs.declared.measure.Size.the-variants.{Outside, Octets}

@@ -1,15 +1,15 @@
 -- The section of the code and the section of the file: its span, and the new file. Assumes nothing.
-use mathlib.Core.Path.{_≡_, refl, sym, ap, _∙_, subst}
+use mathlib.Core.Path.{_≡_, refl, sym, _∙_, subst}
 use mathlib.Core.Option.{Option, none, some, Option·getD, Option·none-ne-some}
 use mathlib.Core.List.{List}
-use Prim.Native.Nat.{ℕ, zero, suc, _+_, _≤_}
+use Prim.Native.Nat.{ℕ, zero, suc, _≤_}
 use native.Mathlib.Omega.{arith}
 use lib.ListN.{length}
 use lib.IntN.{ℤ}
 use Rattle.cbf_walk.specs.Reading.{Item, Reading, refused, good}
 use Rattle.cbf_walk.specs.Edits.{exchange}
 use Rattle.cbf_pixels.specs.Pixels.{packByteOffset}
-use Rattle.cbf_pixels.specs.Answers.{Outcome, refuses, written}
+use Rattle.cbf_pixels.specs.Answers.{Outcome, refuses}
 use Rattle.cbf_pixels.specs.declared.Refusal.{Refusal}
 use Rattle.cbf_format.specs.declared.Encoding.{Encoding}
 use Rattle.cbf_format.specs.declared.Encoding.the-variants.{Binary, Base64}
@@ -17,11 +17,10 @@ use Rattle.cbf_format.specs.Descriptions as D
 use Rattle.cbf_format.specs.Sections as S
 use Rattle.cbf_format.specs.Files as F
 use Rattle.cbf_format.specs.Listing.{Placed, sections, numbered}
-use Rattle.cbf_format.specs.House.{house, replacedFile}
+use Rattle.cbf_format.specs.House.{replacedFile}
 use Rattle.cbf_format.proofs.VerdictLaws.{Known}
 use Rattle.cbf_format.proofs.ReplacementLaws.{SpanAt, span-at}
 use Rattle.cbf_reader.specs.Found.{optional, descriptionOf}
-use Rattle.cbf_reader.specs.StepPlaces.{sectionAt}
 use Rattle.cbf_reader.specs.WalkPlaces.{SectionOf}
 use Rattle.cbf_reader.specs.Surveys.{NumberedSays}
 use Rattle.cbf_reader.specs.declared.step.Section.{Section}

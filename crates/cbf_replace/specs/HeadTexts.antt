@@ -2,7 +2,6 @@
 use mathlib.Core.Option.{Option}
 use mathlib.Core.List.{List, [], _∷_, _++_}
 use Prim.Native.Nat.{ℕ}
-use Rattle.cbf_format.specs.Text.{bytes}
 use Rattle.cbf_format.specs.Descriptions as D
 use Rattle.cbf_format.specs.Sections.{opening, marker}
 use Rattle.cbf_format.specs.House.{ended, endedLines, numberLine, houseLines}

@@ -9,7 +9,7 @@ use lib.IntN.{ℤ}
 use Rattle.cbf_walk.specs.Reading.{Item, Reading}
 use Rattle.cbf_pixels.specs.Octets.{pick}
 use Rattle.cbf_pixels.specs.Pixels.{least, greatest, allWithin, packByteOffset}
-use Rattle.cbf_pixels.specs.Answers.{Outcome, gives, refuses, octetLimit}
+use Rattle.cbf_pixels.specs.Answers.{Outcome, refuses, octetLimit}
 use Rattle.cbf_format.specs.declared.Encoding.{Encoding}
 use Rattle.cbf_format.specs.declared.Encoding.the-variants.{Binary, Base64}
 use Rattle.cbf_format.specs.Descriptions.{Description}

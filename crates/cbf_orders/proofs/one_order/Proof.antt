@@ -2,10 +2,9 @@
 use mathlib.Core.Path.{_≡_, sym, ap, _∙_}
 use denote.Ref.{now}
 use borrow.Author.Needs.{needs}
-use lib.ListN.{length}
 use lib.Seq.{length-take-le}
-use Rattle.cbf_pixels.specs.Answers.{gives, outcome}
-use Rattle.cbf_orders.specs.Orders.{replaceCall, newFile}
+use Rattle.cbf_pixels.specs.Answers.{outcome}
+use Rattle.cbf_orders.specs.Orders.{newFile}
 use Rattle.cbf_orders.proofs.OrderLaws.{Given, given-file, order-refused, order-made}
 use Rattle.cbf_orders.proofs.one_order.Statement.{statement}
 use Rattle.cbf_orders.proofs.one_order.Tie as tie

@@ -1,5 +1,5 @@
 -- `replace_section` meets its contract, by those of `octet_count` and `replace_packed`. Assumes nothing.
-use mathlib.Core.Path.{_≡_, sym, _∙_}
+use mathlib.Core.Path.{sym, _∙_}
 use borrow.Author.Needs.{needs}
 use Rattle.cbf_pixels.specs.Pixels.{packByteOffset}
 use Rattle.cbf_replace.specs.HeadTexts.{described}
