@@ -24,7 +24,7 @@ use Rattle.cbf_format.specs.House.{replacedFile}
 use Rattle.cbf_sections.specs.SectionCalls.{askedOf}
 use Rattle.cbf_write.specs.Rooms.{roomFor}
 use Rattle.cbf_replace.specs.ReplaceCalls as C
-use Rattle.cbf_orders.specs.Orders.{replaceCall, newFile, OrderOutcome, secondCall, orderOf, secondWritten, Premises, TwoOrders}
+use Rattle.cbf_orders.specs.Orders.{replaceCall, newFile, OrderOutcome, secondCall, orderOf, secondWritten, OrderSays, Premises, TwoOrders}
 use Rattle.cbf_orders.proofs.Demand3.{demand-3}
 
 -- ---- a call that gave a file
@@ -92,42 +92,35 @@ given-file file i f old {out} {n} e q =
 -- ---- both calls
 
 module _ (file : List ℕ) (i : ℕ) (f : List ℤ) (j : ℕ) (g : List ℤ) (oi oij : List ℕ) where
-  -- the outcomes of an order, and what is then in its outputs
-  abbrev pub OrderSays : OrderOutcome → List ℕ → List ℕ → Type 0
-  OrderSays order oi′ oij′ =
-      (order ≡ orderOf file i f j g (length oi) (length oij))
-      × ((oi′ ≡ written (replaceCall file i f (length oi)) (newFile file i f) oi)
-      × (oij′ ≡ secondWritten (orderOf file i f j g (length oi) (length oij) .second) (newFile (newFile file i f) j g) oij))
-
   module _ {oi′ : List ℕ} (wrote : oi′ ≡ written (replaceCall file i f (length oi)) (newFile file i f) oi) where
     second-is : {x : Outcome} → x ≡ replaceCall file i f (length oi)
         → secondCall x (newFile file i f) j g (length oij) ≡ orderOf file i f j g (length oi) (length oij) .second
     second-is e = λ z. secondCall (e z) (newFile file i f) j g (length oij)
 
-    pub order-refused : (k p : ℕ) → refuses k p ≡ replaceCall file i f (length oi) → OrderSays (record { first = refuses k p; second = none }) oi′ oij
+    pub order-refused : (k p : ℕ) → refuses k p ≡ replaceCall file i f (length oi) → OrderSays file i f j g (record { first = refuses k p; second = none }) oi oi′ oij oij
     order-refused k p e =
         let s = second-is e in
-        (λ z. record { first = e z; second = s z }, (wrote, λ z. secondWritten (s z) (newFile (newFile file i f) j g) oij))
+        record { answers = λ z. record { first = e z; second = s z }; first-output = wrote; second-output = λ z. secondWritten (s z) (newFile (newFile file i f) j g) oij }
 
     pub order-made : (n : ℕ) {x : Outcome} {oij′ : List ℕ} → gives n ≡ replaceCall file i f (length oi)
         → x ≡ replaceCall (take n oi′) j g (length oij)
         → oij′ ≡ written (replaceCall (take n oi′) j g (length oij)) (newFile (take n oi′) j g) oij
-        → OrderSays (record { first = gives n; second = some x }) oi′ oij′
+        → OrderSays file i f j g (record { first = gives n; second = some x }) oi oi′ oij oij′
     order-made n {x} {oij′} e a b =
         let w = given-file file i f oi (sym e) wrote .front in
         let y : x ≡ replaceCall (newFile file i f) j g (length oij) = a ∙ ap (λ (z : List ℕ). replaceCall z j g (length oij)) w in
-        let s : some x ≡ orderOf file i f j g (length oi) (length oij) .second = ap some y ∙ second-is e in (
-          λ z. record { first = e z; second = s z },
-          (
-            wrote,
-            b ∙ (λ z. written (replaceCall (w z) j g (length oij)) (newFile (w z) j g) oij)
-                ∙ (λ z. secondWritten (second-is e z) (newFile (newFile file i f) j g) oij),
-          ),
-        )
+        let s : some x ≡ orderOf file i f j g (length oi) (length oij) .second = ap some y ∙ second-is e in
+        record {
+          answers = λ z. record { first = e z; second = s z };
+          first-output = wrote;
+          second-output = b ∙ (λ z. written (replaceCall (w z) j g (length oij)) (newFile (w z) j g) oij)
+              ∙ (λ z. secondWritten (second-is e z) (newFile (newFile file i f) j g) oij);
+        }
 
 -- ---- both orders
 
 pub two-orders : (file : List ℕ) (i : ℕ) (f : List ℤ) (j : ℕ) (g : List ℤ) (oi oij oj oji : List ℕ) {ij ji : OrderOutcome} {oi′ oij′ oj′ oji′ : List ℕ}
-    → OrderSays file i f j g oi oij ij oi′ oij′ → OrderSays file j g i f oj oji ji oj′ oji′ → (h : Premises file i f j g)
+    → OrderSays file i f j g ij oi oi′ oij oij′ → OrderSays file j g i f ji oj oj′ oji oji′ → (h : Premises file i f j g)
     → TwoOrders file i f (h .at-i) j g (h .at-j) ij ji oi oi′ oij oij′ oj oj′ oji oji′
-two-orders file i f j g oi oij oj oji s t h = rw (s .0, s .1 .0, s .1 .1, t .0, t .1 .0, t .1 .1) (demand-3 file i f j g h oi oij oj oji)
+two-orders file i f j g oi oij oj oji s t h =
+    rw (s .answers, s .first-output, s .second-output, t .answers, t .first-output, t .second-output) (demand-3 file i f j g h oi oij oj oji)

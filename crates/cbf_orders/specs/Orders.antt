@@ -61,6 +61,12 @@ abbrev pub secondWritten : Option Outcome → List ℕ → List ℕ → List ℕ
 secondWritten none new old = old
 secondWritten (some o) new old = written o new old
 
+-- the outcomes of the two calls of an order, and what is then in their outputs, for every input
+pub record OrderSays (file : List ℕ) (i : ℕ) (f : List ℤ) (j : ℕ) (g : List ℤ) (order : OrderOutcome) (oi oi′ oij oij′ : List ℕ) : Type 0 where
+  pub answers : order ≡ orderOf file i f j g (length oi) (length oij)
+  pub first-output : oi′ ≡ written (replaceCall file i f (length oi)) (newFile file i f) oi
+  pub second-output : oij′ ≡ secondWritten (orderOf file i f j g (length oi) (length oij) .second) (newFile (newFile file i f) j g) oij
+
 -- ---- the premises
 
 -- "Accepted: reading gives no refusal. Fits: as many pixels as elements, each inside the integer type."

@@ -1,10 +1,7 @@
 // Demand 3: the frames of two sections replaced, in either order, as one statement about the four calls. What is demanded is in specs/.
 use cbf_format::LINE_LIMIT;
 use cbf_pixels::Answer;
-ghost use mathlib.Core.Path.{_≡_};
-ghost use lib.ListN.{length};
-ghost use Rattle.cbf_pixels.specs.Answers.{written};
-ghost use Rattle.cbf_orders.specs.Orders.{replaceCall, newFile, orderOutcome, orderOf, secondWritten, Premises, TwoOrders};
+ghost use Rattle.cbf_orders.specs.Orders.{orderOutcome, OrderSays, Premises, TwoOrders};
 
 // The second call of an order: it is made only where the first gave a file.
 pub enum Second {
@@ -33,9 +30,7 @@ pub fn one_order(
     oi: &mut [u8],
     oij: &mut [u8],
 ) -> Order
-    ensures answers { λ r. ⌜ orderOutcome r ≡ orderOf (now (file .entry)) i (now (f .entry)) j (now (g .entry)) (length (now (oi .entry))) (length (now (oij .entry))) ⌝ }
-    ensures first { λ _. ⌜ now (oi .exit) ≡ written (replaceCall (now (file .entry)) i (now (f .entry)) (length (now (oi .entry)))) (newFile (now (file .entry)) i (now (f .entry))) (now (oi .entry)) ⌝ }
-    ensures second { λ _. ⌜ now (oij .exit) ≡ secondWritten (orderOf (now (file .entry)) i (now (f .entry)) j (now (g .entry)) (length (now (oi .entry))) (length (now (oij .entry))) .second) (newFile (newFile (now (file .entry)) i (now (f .entry))) j (now (g .entry))) (now (oij .entry)) ⌝ }
+    ensures order { λ r. ⌜ OrderSays (now (file .entry)) i (now (f .entry)) j (now (g .entry)) (orderOutcome r) (now (oi .entry)) (now (oi .exit)) (now (oij .entry)) (now (oij .exit)) ⌝ }
 {
     let first = cbf::replace(file, LINE_LIMIT, i, f, oi);
     match first {
@@ -65,6 +60,7 @@ pub fn both_orders(
     oj: &mut [u8],
     oji: &mut [u8],
 ) -> Orders
+    ensures orders { λ r. ⌜ OrderSays (now (file .entry)) i (now (f .entry)) j (now (g .entry)) (orderOutcome (r .ij)) (now (oi .entry)) (now (oi .exit)) (now (oij .entry)) (now (oij .exit)) × OrderSays (now (file .entry)) j (now (g .entry)) i (now (f .entry)) (orderOutcome (r .ji)) (now (oj .entry)) (now (oj .exit)) (now (oji .entry)) (now (oji .exit)) ⌝ }
     ensures demand_3 { λ r. ⌜ ((h : Premises (now (file .entry)) i (now (f .entry)) j (now (g .entry))) → TwoOrders (now (file .entry)) i (now (f .entry)) (h .at-i) j (now (g .entry)) (h .at-j) (orderOutcome (r .ij)) (orderOutcome (r .ji)) (now (oi .entry)) (now (oi .exit)) (now (oij .entry)) (now (oij .exit)) (now (oj .entry)) (now (oj .exit)) (now (oji .entry)) (now (oji .exit))) ⌝ }
 {
     let ij = one_order(file, i, f, j, g, oi, oij);
