@@ -93,23 +93,43 @@ pub fn put_head(out: &mut [u8], at: usize, d: Description, size: u64) -> usize
     ensures { λ _. ⌜ now (out .exit) ≡ sets (now (out .entry)) at (headText (described d) size) ⌝ }
 {
     let kind = d.kind;
-    let a = cbf_write::put_text(
+    let after_encoding = cbf_write::put_text(
         out,
         at,
         b"--CIF-BINARY-FORMAT-SECTION--\r\nContent-Type: application/octet-stream;\r\n     conversions=\"x-CBF_BYTE_OFFSET\"\r\nContent-Transfer-Encoding: BINARY\r\n",
     );
-    let b = put_line(out, a, b"X-Binary-Size: ", size);
-    let c = put_optional(out, b, b"X-Binary-ID: ", d.id);
-    let e = cbf_write::put_text(out, c, b"X-Binary-Element-Type: \"");
-    let f = put_type(out, e, kind);
-    let g = cbf_write::put_text(
+    let after_size = put_line(out, after_encoding, b"X-Binary-Size: ", size);
+    let after_id = put_optional(out, after_size, b"X-Binary-ID: ", d.id);
+    let type_at = cbf_write::put_text(out, after_id, b"X-Binary-Element-Type: \"");
+    let type_end = put_type(out, type_at, kind);
+    let after_order = cbf_write::put_text(
         out,
-        f,
+        type_end,
         b"\"\r\nX-Binary-Element-Byte-Order: LITTLE_ENDIAN\r\n",
     );
-    let h = put_line(out, g, b"X-Binary-Number-of-Elements: ", d.elements);
-    let i = put_optional(out, h, b"X-Binary-Size-Fastest-Dimension: ", d.fastest);
-    let j = put_optional(out, i, b"X-Binary-Size-Second-Dimension: ", d.second);
-    let k = put_optional(out, j, b"X-Binary-Size-Third-Dimension: ", d.third);
-    cbf_write::put_text(out, k, b"\r\n\x0c\x1a\x04\xd5")
+    let after_elements = put_line(
+        out,
+        after_order,
+        b"X-Binary-Number-of-Elements: ",
+        d.elements,
+    );
+    let after_fastest = put_optional(
+        out,
+        after_elements,
+        b"X-Binary-Size-Fastest-Dimension: ",
+        d.fastest,
+    );
+    let after_second = put_optional(
+        out,
+        after_fastest,
+        b"X-Binary-Size-Second-Dimension: ",
+        d.second,
+    );
+    let after_third = put_optional(
+        out,
+        after_second,
+        b"X-Binary-Size-Third-Dimension: ",
+        d.third,
+    );
+    cbf_write::put_text(out, after_third, b"\r\n\x0c\x1a\x04\xd5")
 }
