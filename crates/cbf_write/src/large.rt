@@ -4,7 +4,8 @@ ghost use Prim.Native.Nat.{_+_, _≤_};
 ghost use lib.ListN.{length, take, drop};
 ghost use lib.Seq.{sets};
 
-// The bytes that are copied at once: from about this many on, memmove writes past the processor's caches.
+// The bytes that are copied at once: many, since memmove writes past the processor's caches only where it is given much, and few enough for
+// the back end, which limits local variables to 2 GiB.
 const BLOCK: usize = 268435456;
 
 fn block() -> [u8; BLOCK]
