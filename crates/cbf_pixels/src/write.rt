@@ -58,16 +58,17 @@ fn put_15(out: &mut [u8], at: usize, n: u64)
     octets::put8(out, at + 7, n);
 }
 
-// The octets of a difference, written at at; the answer is where the next ones go.
+// The octets of a difference, written at at; the answer is where the next ones go. One octet is tested first: most differences
+// take one.
 fn put_difference(out: &mut [u8], at: usize, d: i64) -> usize
     requires { ⌜ at + length (packDifference d) ≤ length (now out) ⌝ }
     ensures { λ r. ⌜ (r ≡ at + length (packDifference d)) × (now (out .exit) ≡ sets (now (out .entry)) at (packDifference d)) ⌝ }
 {
+    if measure::narrow(d, 128) {
+        octets::put1(out, at, bits_of(d, 256));
+        return at + 1;
+    }
     if measure::narrow(d, 32768) {
-        if measure::narrow(d, 128) {
-            octets::put1(out, at, bits_of(d, 256));
-            return at + 1;
-        }
         put_3(out, at, bits_of(d, 65536));
         return at + 3;
     }

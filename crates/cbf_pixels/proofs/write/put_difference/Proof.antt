@@ -15,37 +15,37 @@ use Rattle.cbf_pixels.proofs.write.put_difference.Tie as tie
 
 -- what the tests say of the difference
 
-below-32768 : (c : tie.Then1) → natAbs (c .before .before .before .args .d) < 32768
-below-32768 c = narrow-true (c .before .before .before .args .d) 32768 (c .before .narrow .result) (c .before .before .before .fits .d) (c .before .narrow .ensures) (c .if1 .taken)
+below-128 : (c : tie.Then1) → natAbs (c .before .before .before .args .d) < 128
+below-128 c = narrow-true (c .before .before .before .args .d) 128 (c .before .narrow .result) (c .before .before .before .fits .d) (c .before .narrow .ensures) (c .if1 .taken)
 
-from-32768 : (c : tie.Else1) → 32768 ≤ natAbs (c .before .before .before .args .d)
-from-32768 c = narrow-false (c .before .before .before .args .d) 32768 (c .before .narrow .result) (c .before .before .before .fits .d) (c .before .narrow .ensures) (c .if1 .left)
+from-128 : (c : tie.Else1) → 128 ≤ natAbs (c .before .before .before .args .d)
+from-128 c = narrow-false (c .before .before .before .args .d) 128 (c .before .narrow .result) (c .before .before .before .fits .d) (c .before .narrow .ensures) (c .if1 .left)
 
-below-128 : (c : tie.Then2) → natAbs (c .before .before .before .before .before .args .d) < 128
-below-128 c = narrow-true (c .before .before .before .before .before .args .d) 128 (c .before .narrow2 .result) (c .before .before .before .before .before .fits .d) (c .before .narrow2 .ensures) (c .if2 .taken)
+below-32768 : (c : tie.Then2) → natAbs (c .before .before .before .before .before .args .d) < 32768
+below-32768 c = narrow-true (c .before .before .before .before .before .args .d) 32768 (c .before .narrow2 .result) (c .before .before .before .before .before .fits .d) (c .before .narrow2 .ensures) (c .if2 .taken)
 
-from-128 : (c : tie.Else2) → 128 ≤ natAbs (c .before .before .before .before .before .args .d)
-from-128 c = narrow-false (c .before .before .before .before .before .args .d) 128 (c .before .narrow2 .result) (c .before .before .before .before .before .fits .d) (c .before .narrow2 .ensures) (c .if2 .left)
+from-32768 : (c : tie.Else2) → 32768 ≤ natAbs (c .before .before .before .before .before .args .d)
+from-32768 c = narrow-false (c .before .before .before .before .before .args .d) 32768 (c .before .narrow2 .result) (c .before .before .before .before .before .fits .d) (c .before .narrow2 .ensures) (c .if2 .left)
 
-below-2147483648 : (c : tie.Then3) → natAbs (c .before .before .before .before .before .args .d) < 2147483648
-below-2147483648 c = narrow-true (c .before .before .before .before .before .args .d) 2147483648 (c .before .narrow3 .result) (c .before .before .before .before .before .fits .d) (c .before .narrow3 .ensures) (c .if3 .taken)
+below-2147483648 : (c : tie.Then3) → natAbs (c .before .before .before .before .before .before .before .args .d) < 2147483648
+below-2147483648 c = narrow-true (c .before .before .before .before .before .before .before .args .d) 2147483648 (c .before .narrow3 .result) (c .before .before .before .before .before .before .before .fits .d) (c .before .narrow3 .ensures) (c .if3 .taken)
 
-from-2147483648 : (c : tie.Else3) → 2147483648 ≤ natAbs (c .before .before .before .before .before .args .d)
-from-2147483648 c = narrow-false (c .before .before .before .before .before .args .d) 2147483648 (c .before .narrow3 .result) (c .before .before .before .before .before .fits .d) (c .before .narrow3 .ensures) (c .if3 .left)
+from-2147483648 : (c : tie.Else3) → 2147483648 ≤ natAbs (c .before .before .before .before .before .before .before .args .d)
+from-2147483648 c = narrow-false (c .before .before .before .before .before .before .before .args .d) 2147483648 (c .before .narrow3 .result) (c .before .before .before .before .before .before .before .fits .d) (c .before .narrow3 .ensures) (c .if3 .left)
 
 -- and of its octets
 
-form-1 : (c : tie.Then2) → Form (c .before .before .before .before .before .args .d) 1 (octets 1 (bits 1 (c .before .before .before .before .before .args .d)))
-form-1 c = form1 (c .before .before .before .before .before .args .d) (below-128 c)
+form-1 : (c : tie.Then1) → Form (c .before .before .before .args .d) 1 (octets 1 (bits 1 (c .before .before .before .args .d)))
+form-1 c = form1 (c .before .before .before .args .d) (below-128 c)
 
-form-3 : (c : tie.Else2) → Form (c .before .before .before .before .before .args .d) 3 (octets 1 128 ++ octets 2 (bits 2 (c .before .before .before .before .before .args .d)))
-form-3 c = form2 (c .before .before .before .before .before .args .d) (from-128 c) (below-32768 (c .before .before))
+form-3 : (c : tie.Then2) → Form (c .before .before .before .before .before .args .d) 3 (octets 1 128 ++ octets 2 (bits 2 (c .before .before .before .before .before .args .d)))
+form-3 c = form2 (c .before .before .before .before .before .args .d) (from-128 (c .before .before)) (below-32768 c)
 
-form-7 : (c : tie.Then3) → Form (c .before .before .before .before .before .args .d) 7 (octets 1 128 ++ octets 2 32768 ++ octets 4 (bits 4 (c .before .before .before .before .before .args .d)))
-form-7 c = form4 (c .before .before .before .before .before .args .d) (from-32768 (c .before .before)) (below-2147483648 c)
+form-7 : (c : tie.Then3) → Form (c .before .before .before .before .before .before .before .args .d) 7 (octets 1 128 ++ octets 2 32768 ++ octets 4 (bits 4 (c .before .before .before .before .before .before .before .args .d)))
+form-7 c = form4 (c .before .before .before .before .before .before .before .args .d) (from-32768 (c .before .before)) (below-2147483648 c)
 
-form-15 : (c : tie.Else3) → Form (c .before .before .before .before .before .args .d) 15 (octets 1 128 ++ octets 2 32768 ++ octets 4 2147483648 ++ octets 8 (bits 8 (c .before .before .before .before .before .args .d)))
-form-15 c = form8 (c .before .before .before .before .before .args .d) (from-2147483648 c)
+form-15 : (c : tie.Else3) → Form (c .before .before .before .before .before .before .before .args .d) 15 (octets 1 128 ++ octets 2 32768 ++ octets 4 2147483648 ++ octets 8 (bits 8 (c .before .before .before .before .before .before .before .args .d)))
+form-15 c = form8 (c .before .before .before .before .before .before .before .args .d) (from-2147483648 c)
 
 narrow-requires : tie.Need-narrow-requires
 narrow-requires c κs = search needs
@@ -61,12 +61,12 @@ bits-of-far-requires c κs = search needs
 
 bits-of-requires : tie.Need-bits-of-requires
 bits-of-requires c κs =
-    let s = c .before .before .before .before .before .before in
+    let s = c .before .before .before .before in
     bits-asks (s .args .d) 256 (s .fits .d) (omega arith) (omega arith) (omega (arith, below-128 (c .before)))
 
 put1-requires : tie.Need-put1-requires
 put1-requires c κs =
-    let s = c .before .before .before .before .before .before .before in
+    let s = c .before .before .before .before .before in
     form-room (s .args .at) _ (form-1 (c .before .before)) (s .pre)
 
 add-result : tie.Need-add-result
@@ -77,7 +77,7 @@ same-length c = search needs
 
 returns : tie.Need-returns
 returns c =
-    let s = c .before .before .before .before .before .before .before .before .before .before in
+    let s = c .before .before .before .before .before .before .before .before in
     let out = s .args .out .now in
     let b = c .before .before .before .bits-of .ensures 1 refl ∙ ap (bits 1) (toZ-ofZ (s .fits .d)) in
     form-done out (s .args .at) _ (form-1 (c .before .before .before .before .before))
@@ -86,7 +86,7 @@ returns c =
 bits-of-requires-2 : tie.Need-bits-of-requires-2
 bits-of-requires-2 c κs =
     let s = c .before .before .before .before .before .before in
-    bits-asks (s .args .d) 65536 (s .fits .d) (omega arith) (omega arith) (omega (arith, below-32768 (c .before .before .before)))
+    bits-asks (s .args .d) 65536 (s .fits .d) (omega arith) (omega arith) (omega (arith, below-32768 (c .before)))
 
 put-3-requires : tie.Need-put-3-requires
 put-3-requires c κs =
@@ -109,12 +109,12 @@ returns-2 c =
 
 bits-of-requires-3 : tie.Need-bits-of-requires-3
 bits-of-requires-3 c κs =
-    let s = c .before .before .before .before .before .before in
+    let s = c .before .before .before .before .before .before .before .before in
     bits-asks (s .args .d) 4294967296 (s .fits .d) (omega arith) (omega arith) (omega (arith, below-2147483648 (c .before)))
 
 put-7-requires : tie.Need-put-7-requires
 put-7-requires c κs =
-    let s = c .before .before .before .before .before .before .before in
+    let s = c .before .before .before .before .before .before .before .before .before in
     form-room (s .args .at) _ (form-7 (c .before .before)) (s .pre)
 
 add-result-3 : tie.Need-add-result-3
@@ -125,7 +125,7 @@ same-length-3 c = search needs
 
 returns-3 : tie.Need-returns-3
 returns-3 c =
-    let s = c .before .before .before .before .before .before .before .before .before .before in
+    let s = c .before .before .before .before .before .before .before .before .before .before .before .before in
     let out = s .args .out .now in
     let b = c .before .before .before .bits-of3 .ensures 4 refl ∙ ap (bits 4) (toZ-ofZ (s .fits .d)) in
     form-done out (s .args .at) _ (form-7 (c .before .before .before .before .before))
@@ -133,7 +133,7 @@ returns-3 c =
 
 put-15-requires : tie.Need-put-15-requires
 put-15-requires c κs =
-    let s = c .before .before .before .before .before .before .before in
+    let s = c .before .before .before .before .before .before .before .before .before in
     form-room (s .args .at) _ (form-15 (c .before .before)) (s .pre)
 
 add-result-4 : tie.Need-add-result-4
@@ -144,7 +144,7 @@ same-length-4 c = search needs
 
 returns-4 : tie.Need-returns-4
 returns-4 c =
-    let s = c .before .before .before .before .before .before .before .before .before .before in
+    let s = c .before .before .before .before .before .before .before .before .before .before .before .before in
     let out = s .args .out .now in
     let b = c .before .before .before .bits-of-far .ensures ∙ ap (bits 8) (toZ-ofZ (s .fits .d)) in
     form-done out (s .args .at) _ (form-15 (c .before .before .before .before .before))
@@ -155,12 +155,12 @@ put-difference-spec =
     tie.close
     (tie.spec
     narrow-requires
-    narrow-requires-2
     bits-of-requires
     put1-requires
     add-result
     same-length
     returns
+    narrow-requires-2
     bits-of-requires-2
     put-3-requires
     add-result-2
