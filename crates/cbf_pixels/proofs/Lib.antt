@@ -5,6 +5,7 @@ pub mod Little
 pub mod Reading
 pub mod Differences
 pub mod PlainOctets
+pub mod Ranges
 pub mod Shortest
 pub mod Round
 pub mod Table

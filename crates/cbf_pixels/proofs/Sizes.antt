@@ -77,7 +77,7 @@ size-inside lo hi z xs h = go (allWithin lo hi xs) h
     go true q = refl
     go false q = absurd (q refl)
 
-size-is : (lo hi z : ℤ) (xs : List ℤ) → allWithin lo hi xs ≡ true → sizeWithin lo hi z xs ≡ length (packFrom z xs)
+pub size-is : (lo hi z : ℤ) (xs : List ℤ) → allWithin lo hi xs ≡ true → sizeWithin lo hi z xs ≡ length (packFrom z xs)
 unfolding sizeWithin pick
 size-is lo hi z xs e = rw e
 

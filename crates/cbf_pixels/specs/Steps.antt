@@ -241,6 +241,24 @@ unfoldable pub sizeWithin : ℤ → ℤ → ℤ → List ℤ → ℕ
 unfolding pick
 sizeWithin lo hi z ps = pick (allWithin lo hi ps) (length (packFrom z ps)) 0
 
+-- the least number of a range that ends at limit, with a sign or without
+abbrev pub lowest : Bool → ℕ → ℤ
+lowest true limit = negsuc limit
+lowest false limit = pos 0
+
+-- each of the n pixels from k on is from lo to hi
+abbrev pub EachWithin : List ℤ → ℕ → ℕ → ℤ → ℤ → Type 0
+EachWithin ps k n lo hi = (j : ℕ) → j < n → within lo hi (getD ps (k + j) (pos 0)) ≡ true
+
+-- and near 0, so that differences of them fit 32 bits
+abbrev pub EachNear : List ℤ → ℕ → ℕ → Type 0
+EachNear ps k n = (j : ℕ) → j < n → mag (getD ps (k + j) (pos 0)) < 2 ^ 30
+
+-- 0 where a width with half numbers on each side of 0 holds the difference d, and 1 where not
+unfoldable pub over : ℤ → ℕ → ℕ
+unfolding pick
+over d half = pick (ltb (natAbs d) half) 0 1
+
 -- a pixel of some type
 abbrev pub Small : ℤ → Type 0
 Small z = natAbs z < 2 ^ 33

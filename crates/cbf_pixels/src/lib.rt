@@ -5,6 +5,7 @@ mod fill;
 mod measure;
 mod octets;
 mod plain;
+mod range;
 mod uncompressed;
 mod validate;
 mod window;

@@ -1,15 +1,17 @@
 // The first pass of packing: whether each pixel is in its type, and how many octets the packed pixels take.
 use crate::ElementType;
-use crate::plain;
+use crate::range;
 use crate::window;
 ghost use mathlib.Core.Path.{_≡_};
-ghost use Prim.Native.Nat.{ℕ, _+_, _*_, _<_, _≤_, _^_};
+ghost use mathlib.Core.Bool.{true};
+ghost use Prim.Native.Nat.{ℕ, _+_, _*_, _-_, _<_, _≤_, _^_};
 ghost use lib.Dec.{ltb};
-ghost use lib.ListN.{length};
-ghost use lib.IntN.{pos, natAbs};
+ghost use lib.ListN.{length, getD};
+ghost use lib.IntN.{pos, natAbs, _-ℤ_};
+ghost use lib.Signed.{mag, leZ};
 ghost use mathlib.Core.List.{[], _∷_};
-ghost use Rattle.cbf_pixels.specs.Pixels.{least, greatest, within, packDifference};
-ghost use Rattle.cbf_pixels.specs.Steps.{Typed, part, sizeWithin, sizeOf};
+ghost use Rattle.cbf_pixels.specs.Pixels.{least, greatest, within, packDifference, packFrom};
+ghost use Rattle.cbf_pixels.specs.Steps.{Typed, EachWithin, EachNear, over, part, sizeWithin, sizeOf};
 
 fn least_of(kind: ElementType) -> i64
     ensures { λ r. ⌜ r ≡ least kind ⌝ }
@@ -78,56 +80,9 @@ fn pixel_size(z: i64, last: i64, lo: i64, hi: i64) -> usize
     difference_size(z - last)
 }
 
-// The octets of the four pixels from k on, or 0 where one is outside.
-fn size_of_four(pixels: &[i64], k: usize, last: i64, lo: i64, hi: i64) -> usize
-    requires { ⌜ Typed lo hi last × (k + 4 ≤ length (now pixels)) ⌝ }
-    ensures { λ r. ⌜ (r ≡ sizeWithin lo hi last (part (now (pixels .entry)) k 4)) × (r ≤ 60) ⌝ }
-{
-    let z1 = pixels[k];
-    let n1 = pixel_size(z1, last, lo, hi);
-    if n1 == 0 {
-        return 0;
-    }
-    let z2 = pixels[k + 1];
-    let n2 = pixel_size(z2, z1, lo, hi);
-    if n2 == 0 {
-        return 0;
-    }
-    let z3 = pixels[k + 2];
-    let n3 = pixel_size(z3, z2, lo, hi);
-    if n3 == 0 {
-        return 0;
-    }
-    let n4 = pixel_size(pixels[k + 3], z3, lo, hi);
-    if n4 == 0 {
-        return 0;
-    }
-    n1 + n2 + n3 + n4
-}
-
-// The octets of the 32 pixels from k on, or 0 where one is outside.
-fn size_of_32(pixels: &[i64], k: usize, last: i64, lo: i64, hi: i64) -> usize
-    requires { ⌜ Typed lo hi last × (k + 32 ≤ length (now pixels)) ⌝ }
-    ensures { λ r. ⌜ (r ≡ sizeWithin lo hi last (part (now (pixels .entry)) k 32)) × (r ≤ 15 * 32) ⌝ }
-{
-    let mut before = last;
-    let mut total: usize = 0;
-    let mut j: usize = 0;
-    while j < 32 {
-        let n = size_of_four(pixels, k + j, before, lo, hi);
-        if n == 0 {
-            return 0;
-        }
-        total += n;
-        before = pixels[k + j + 3];
-        j += 4;
-    }
-    total
-}
-
 // The octets of the n pixels from k on, or 0 where one is outside.
 fn size_of_each(pixels: &[i64], k: usize, n: usize, last: i64, lo: i64, hi: i64) -> usize
-    requires { ⌜ Typed lo hi last × (k + n ≤ length (now pixels)) × (n < 32) ⌝ }
+    requires { ⌜ Typed lo hi last × (k + n ≤ length (now pixels)) × (n ≤ 128) ⌝ }
     ensures { λ r. ⌜ (r ≡ sizeWithin lo hi last (part (now (pixels .entry)) k n)) × (r ≤ 15 * n) ⌝ }
 {
     let mut before = last;
@@ -146,15 +101,79 @@ fn size_of_each(pixels: &[i64], k: usize, n: usize, last: i64, lo: i64, hi: i64)
     total
 }
 
-// The octets of the n pixels from k on, at most 32, or 0 where one is outside.
-fn size_of_few(pixels: &[i64], k: usize, n: usize, last: i64, lo: i64, hi: i64) -> usize
-    requires { ⌜ Typed lo hi last × (k + n ≤ length (now pixels)) × (n ≤ 32) ⌝ }
+// The difference of two pixels, in 32 bits.
+fn near_difference(z: i64, last: i64) -> i32
+    requires { ⌜ (mag z < 2 ^ 30) × (mag last < 2 ^ 30) ⌝ }
+    ensures { λ r. ⌜ r ≡ z -ℤ last ⌝ }
+{
+    let y = z as i32;
+    let x = last as i32;
+    y - x
+}
+
+// 0 where a width holds the difference d, and 1 where not.
+fn beyond(d: i32, half: u16) -> u32
+    ensures { λ r. ⌜ r ≡ over d half ⌝ }
+{
+    let h = half as i32;
+    if d <= -h {
+        return 1;
+    }
+    if d < h { 0 } else { 1 }
+}
+
+// The octets of the n pixels after i, without a branch for each.
+fn size_of_near(pixels: &[i64], i: usize, n: usize) -> usize
+    requires { ⌜ (i + n < length (now pixels)) × (n ≤ 128) × EachNear (now pixels) i (n + 1) ⌝ }
+    ensures { λ r. ⌜ (r ≡ length (packFrom (getD (now (pixels .entry)) i (pos 0)) (part (now (pixels .entry)) (i + 1) n))) × (r ≤ 15 * n) ⌝ }
+{
+    let mut one: u32 = 0;
+    let mut two: u32 = 0;
+    let mut j: usize = 0;
+    while j < n {
+        let z = pixels[i + j];
+        let y = pixels[i + j + 1];
+        let d = near_difference(y, z);
+        one += beyond(d, 128);
+        two += beyond(d, 32768);
+        j += 1;
+    }
+    n + 2 * one as usize + 4 * two as usize
+}
+
+// At most hi, and below 2^30, so that differences fit 32 bits.
+fn near_limit(hi: i64) -> u64
+    requires { ⌜ leZ (pos 0) hi ≡ true ⌝ }
+    ensures { λ r. ⌜ (leZ (pos r) hi ≡ true) × (r < 2 ^ 30) ⌝ }
+{
+    if hi < 1073741823 {
+        return hi as u64;
+    }
+    1073741823
+}
+
+// Whether the n pixels from i on are in their type and near 0: true only where they are.
+fn all_near(pixels: &[i64], i: usize, n: usize, last: i64, lo: i64, hi: i64) -> bool
+    requires { ⌜ Typed lo hi last × (i + n ≤ length (now pixels)) ⌝ }
+    ensures { λ r. ⌜ (r ≡ true → EachWithin (now (pixels .entry)) i n lo hi × EachNear (now (pixels .entry)) i n) ⌝ }
+{
+    let signed = lo < 0;
+    let limit = near_limit(hi);
+    range::each_within(pixels, i, n, signed, limit)
+}
+
+// The octets of the n pixels from k on, or 0 where one is outside. last is the pixel before them.
+fn size_of_part(pixels: &[i64], k: usize, n: usize, last: i64, lo: i64, hi: i64) -> usize
+    requires { ⌜ Typed lo hi last × (k + n ≤ length (now pixels)) × (n ≤ 128) × (0 < k → last ≡ getD (now pixels) (k - 1) (pos 0)) ⌝ }
     ensures { λ r. ⌜ (r ≡ sizeWithin lo hi last (part (now (pixels .entry)) k n)) × (r ≤ 15 * n) ⌝ }
 {
-    if n < 32 {
+    if k < 1 {
         return size_of_each(pixels, k, n, last, lo, hi);
     }
-    size_of_32(pixels, k, last, lo, hi)
+    if !all_near(pixels, k - 1, n + 1, last, lo, hi) {
+        return size_of_each(pixels, k, n, last, lo, hi);
+    }
+    size_of_near(pixels, k - 1, n)
 }
 
 pub enum Size {
@@ -175,8 +194,8 @@ pub fn octet_count(kind: ElementType, pixels: &[i64]) -> Size
     while k < pixels.len() {
         let mut n = window::window_run(pixels, k, last);
         if n == 0 {
-            n = plain::part(pixels.len() - k);
-            let m = size_of_few(pixels, k, n, last, lo, hi);
+            n = window::part(pixels.len() - k);
+            let m = size_of_part(pixels, k, n, last, lo, hi);
             if m == 0 {
                 return Size::Outside;
             }

@@ -2,6 +2,7 @@
 use crate::measure;
 use crate::octets;
 use crate::plain;
+use crate::range;
 use crate::window;
 ghost use mathlib.Core.Path.{_≡_};
 ghost use Prim.Native.Nat.{ℕ, _+_, _%_, _<_, _≤_, _^_};
@@ -20,16 +21,6 @@ fn bits_of(d: i64, size: u64) -> u64
     ensures { λ r. ⌜ ((k : ℕ) → size ≡ 256 ^ k → r ≡ bits k d) ⌝ }
 {
     (d + size as i64) as u64 % size
-}
-
-// The same in eight octets.
-fn bits_of_far(d: i64) -> u64
-    ensures { λ r. ⌜ r ≡ bits 8 d ⌝ }
-{
-    if d < 0 {
-        return 18446744073709551615 - (-1 - d) as u64;
-    }
-    d as u64
 }
 
 // An escape of each kind, and the number after it.
@@ -76,7 +67,7 @@ fn put_difference(out: &mut [u8], at: usize, d: i64) -> usize
         put_7(out, at, bits_of(d, 4294967296));
         return at + 7;
     }
-    put_15(out, at, bits_of_far(d));
+    put_15(out, at, range::bits_of_far(d));
     at + 15
 }
 

@@ -1,6 +1,6 @@
 use Prim.Native.Nat.{ℕ, _+_, _*_, _-_, _≤_}
 use native.Mathlib.Omega.{arith}
-use mathlib.Core.Path.{sym, subst}
+use mathlib.Core.Path.{sym, subst, _∙_}
 use mathlib.Core.Logic.{⊎-elim}
 use lib.ListN.{length}
 use lib.IntN.{pos}
@@ -8,6 +8,7 @@ use borrow.Author.Needs.{needs}
 use mir.Syntax.{w64}
 use mir.Val.{toZ}
 use mir.Facts.{toZ-ofZ}
+use Rattle.cbf_pixels.proofs.Parts.{last-at}
 use Rattle.cbf_pixels.proofs.Sizes.{Measured, Added, added-more, added-out, all-none, all-inside, all-outside, window-size, held}
 use Rattle.cbf_pixels.proofs.measure.octet_count.Statement.{statement}
 use Rattle.cbf_pixels.proofs.measure.octet_count.Tie as tie
@@ -37,13 +38,19 @@ sub-part c = search needs
 part-requires : tie.Need-part-requires Inv-loop μ-loop
 part-requires c κs = search needs
 
-size-of-few-requires : tie.Need-size-of-few-requires Inv-loop μ-loop
-size-of-few-requires c κs = (c .before .before .before .before .loop .inv .0 .typed, omega (arith, c .part .ensures .0), c .part .ensures .1)
+size-of-part-requires : tie.Need-size-of-part-requires Inv-loop μ-loop
+size-of-part-requires c κs = 
+    let l = c .before .before .before .before .loop in (
+      l .inv .0 .typed,
+      omega (arith, c .part .ensures .0),
+      c .part .ensures .1,
+      λ h. l .inv .0 .ends ∙ last-at (pos 0) (c .before .before .before .before .before .before .before .args .pixels .now) 0 (l .k) (l .k - 1) (omega arith) (omega arith) (omega arith),
+    )
 
 returns : tie.Need-returns Inv-loop μ-loop
 returns c =
     let n = c .before .before .part in
-    let r = c .before .size-of-few in
+    let r = c .before .size-of-part in
     let t = c .before .before .before .before .before .loop-test .taken in
     all-outside (c .before .before .before .before .before .before .before .before .before .args .kind) (c .before .before .before .before .before .before .before .before .least-of .ensures) (c .before .before .before .before .before .before .before .greatest-of .ensures) (c .before .before .before .before .before .before .before .before .before .args .pixels .now)
     (added-out (c .before .before .before .before .before .before .loop .inv .0) (n .result) (r .result) (r .ensures .0) (c .if2 .taken) (n .ensures .2 (omega arith)) (omega (arith, n .ensures .0)))
@@ -51,7 +58,7 @@ returns c =
 add-total : tie.Need-add-total Inv-loop μ-loop
 add-total c =
     let l = c .before .before .before .before .before .before .loop in
-    omega (arith, c .before .size-of-few .ensures .1, c .before .before .part .ensures .1, l .inv, c .before .before .before .before .before .before .before .before .before .pre)
+    omega (arith, c .before .size-of-part .ensures .1, c .before .before .part .ensures .1, l .inv, c .before .before .before .before .before .before .before .before .before .pre)
 
 add-total-2 : tie.Need-add-total-2 Inv-loop μ-loop
 add-total-2 c =
@@ -127,7 +134,7 @@ octet-count-spec =
     window-run-requires
     sub-part
     part-requires
-    size-of-few-requires
+    size-of-part-requires
     returns
     add-total
     add-total-2

@@ -1,4 +1,4 @@
--- `write::bits_of_far` meets its contract, by the difference's sign. Assumes nothing.
+-- `range::bits_of_far` meets its contract, by the difference's sign. Assumes nothing.
 use Prim.Native.Nat.{_-_}
 use native.Mathlib.Omega.{arith}
 use mathlib.Core.Bool.{true, false}
@@ -9,8 +9,8 @@ use mir.Syntax.{w64}
 use mir.Val.{toZ, ofZ}
 use mir.Facts.{toZ-ofZ}
 use Rattle.cbf_pixels.proofs.Writing.{below-zero, below-bits, from-zero, from-bits, unsigned, fits-pos}
-use Rattle.cbf_pixels.proofs.write.bits_of_far.Statement.{statement}
-use Rattle.cbf_pixels.proofs.write.bits_of_far.Tie as tie
+use Rattle.cbf_pixels.proofs.range.bits_of_far.Statement.{statement}
+use Rattle.cbf_pixels.proofs.range.bits_of_far.Tie as tie
 
 negative : (c : tie.Then1) → ltZ (c .before .args .d) (pos 0) ≡ true
 negative c = subst (λ (z : ℤ). ltZ z (pos 0) ≡ true) (toZ-ofZ (c .before .fits .d)) (c .if1 .taken)

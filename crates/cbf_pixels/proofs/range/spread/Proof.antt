@@ -1,0 +1,68 @@
+use Prim.Native.Nat.{ℕ, _+_, _-_, _<_, _≤_}
+use native.Mathlib.Omega.{arith}
+use mathlib.Core.Path.{ap, sym, subst, _∙_}
+use lib.Bits.{bitOr}
+use lib.ListN.{getD}
+use lib.IntN.{pos}
+use lib.Signed.{mag}
+use borrow.Author.Needs.{needs}
+use Rattle.cbf_pixels.proofs.Integers.{held}
+use Rattle.cbf_pixels.proofs.Windows.{or-more}
+use Rattle.cbf_pixels.proofs.range.spread.Statement.{statement}
+use Rattle.cbf_pixels.proofs.range.spread.Tie as tie
+
+abbrev Inv-loop : tie.InvT-loop
+Inv-loop pixels k n all₀ j₀ all j = (j ≤ n) × ((i : ℕ) → i < j → mag (getD pixels (k + i) (pos 0)) ≤ all)
+
+abbrev μ-loop : tie.MeasureT-loop
+μ-loop pixels k n all₀ j₀ all j = n - j
+
+loop-holds : tie.Need-loop-holds Inv-loop μ-loop
+loop-holds c = (omega arith, λ i h. let y : ⊥ = omega arith in absurd y)
+
+add-z : tie.Need-add-z Inv-loop μ-loop
+add-z c = search needs
+
+mul-z : tie.Need-mul-z Inv-loop μ-loop
+mul-z c = search needs
+
+shared-slice-copy-out-z : tie.Need-shared-slice-copy-out-z Inv-loop μ-loop
+shared-slice-copy-out-z c = search needs
+
+magnitude-requires : tie.Need-magnitude-requires Inv-loop μ-loop
+magnitude-requires c κs = search needs
+
+add-j : tie.Need-add-j Inv-loop μ-loop
+add-j c = search needs
+
+loop-less : tie.Need-loop-less Inv-loop μ-loop
+loop-less c = search needs
+
+loop-again : tie.Need-loop-again Inv-loop μ-loop
+loop-again c =
+    let l = c .before .before .before .loop in
+    let s = c .before .before .before .before .args in
+    let e = c .magnitude .ensures ∙ ap mag (held (getD (s .pixels .now) (s .k + l .j) (pos 0)) (c .before .z .given)) in (
+      omega arith,
+      subst (λ (x : ℕ). (i : ℕ) → i < l .j + 1 → mag (getD (s .pixels .now) (s .k + i) (pos 0)) ≤ bitOr (l .all) x) (sym e)
+          (or-more (λ (i : ℕ). mag (getD (s .pixels .now) (s .k + i) (pos 0))) (l .j) (l .all) (l .inv .1)),
+    )
+
+returns : tie.Need-returns Inv-loop μ-loop
+returns c = λ j h. c .before .loop .inv .1 j (omega arith)
+
+pub spread-spec : {M : Type 1} → statement M
+spread-spec =
+    tie.close
+    (tie.spec
+    Inv-loop
+    μ-loop
+    loop-holds
+    add-z
+    mul-z
+    shared-slice-copy-out-z
+    magnitude-requires
+    add-j
+    loop-less
+    loop-again
+    returns)

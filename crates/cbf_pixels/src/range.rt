@@ -1,0 +1,71 @@
+// Whether pixels are from 0, or from -1 - limit, to limit, where limit + 1 is a power of two: without a branch for each, by the
+// bitwise or of them.
+ghost use mathlib.Core.Path.{_≡_};
+ghost use mathlib.Core.Bool.{true};
+ghost use Prim.Native.Nat.{ℕ, _+_, _<_, _≤_, _^_};
+ghost use lib.ListN.{length, getD};
+ghost use lib.IntN.{pos};
+ghost use lib.Signed.{mag};
+ghost use Rattle.cbf_pixels.specs.Octets.{bits};
+ghost use Rattle.cbf_pixels.specs.Steps.{lowest, EachWithin};
+
+// n of n and of -1 - n.
+fn magnitude(z: i64) -> u64
+    ensures { λ r. ⌜ r ≡ mag z ⌝ }
+{
+    if z < 0 {
+        return (-1 - z) as u64;
+    }
+    z as u64
+}
+
+// The number in eight octets.
+pub fn bits_of_far(d: i64) -> u64
+    ensures { λ r. ⌜ r ≡ bits 8 d ⌝ }
+{
+    if d < 0 {
+        return 18446744073709551615 - (-1 - d) as u64;
+    }
+    d as u64
+}
+
+// At least the magnitude of each of the n pixels from k on.
+fn spread(pixels: &[i64], k: usize, n: usize) -> u64
+    requires { ⌜ k + n ≤ length (now pixels) ⌝ }
+    ensures { λ r. ⌜ ((j : ℕ) → j < n → mag (getD (now (pixels .entry)) (k + j) (pos 0)) ≤ r) ⌝ }
+{
+    let mut all: u64 = 0;
+    let mut j: usize = 0;
+    while j < n {
+        let z = pixels[k + j];
+        all = all | magnitude(z);
+        j += 1;
+    }
+    all
+}
+
+// The same for pixels that are not to be negative: a negative one counts as more than 2^63.
+fn spread_up(pixels: &[i64], k: usize, n: usize) -> u64
+    requires { ⌜ k + n ≤ length (now pixels) ⌝ }
+    ensures { λ r. ⌜ ((j : ℕ) → j < n → (bits 8 (getD (now (pixels .entry)) (k + j) (pos 0)) ≤ r) × (mag (getD (now (pixels .entry)) (k + j) (pos 0)) < 2 ^ 63)) ⌝ }
+{
+    let mut all: u64 = 0;
+    let mut j: usize = 0;
+    while j < n {
+        let z = pixels[k + j];
+        all = all | bits_of_far(z);
+        j += 1;
+    }
+    all
+}
+
+// Whether each of the n pixels from k on is at most limit, and from 0 or from -1 - limit on: true only where it is so.
+pub fn each_within(pixels: &[i64], k: usize, n: usize, signed: bool, limit: u64) -> bool
+    requires { ⌜ (k + n ≤ length (now pixels)) × (limit < 2 ^ 63) ⌝ }
+    ensures { λ r. ⌜ (r ≡ true → EachWithin (now (pixels .entry)) k n (lowest signed limit) (pos limit)) ⌝ }
+{
+    if signed {
+        return spread(pixels, k, n) <= limit;
+    }
+    spread_up(pixels, k, n) <= limit
+}
