@@ -1,7 +1,6 @@
 // The second pass of packing: the octets of pixels that are known to be in their type and to fit the output.
 use crate::measure;
 use crate::octets;
-use crate::plain;
 use crate::range;
 use crate::window;
 ghost use mathlib.Core.Path.{_≡_};
@@ -114,15 +113,15 @@ fn write_four(pixels: &[i64], k: usize, last: i64, out: &mut [u8], at: usize) ->
     put_difference(out, at3, pixels[k + 3] - z3)
 }
 
-// The 32 pixels from k on.
-fn write_32(pixels: &[i64], k: usize, last: i64, out: &mut [u8], at: usize) -> usize
-    requires { ⌜ Writable (now pixels) k 32 last (now out) at ⌝ }
-    ensures { λ r. ⌜ Wrote (now (pixels .entry)) k 32 last (now (out .entry)) at (now (out .exit)) r ⌝ }
+// The 128 pixels from k on.
+fn write_128(pixels: &[i64], k: usize, last: i64, out: &mut [u8], at: usize) -> usize
+    requires { ⌜ Writable (now pixels) k 128 last (now out) at ⌝ }
+    ensures { λ r. ⌜ Wrote (now (pixels .entry)) k 128 last (now (out .entry)) at (now (out .exit)) r ⌝ }
 {
     let mut before = last;
     let mut next = at;
     let mut j: usize = 0;
-    while j < 32 {
+    while j < 128 {
         next = write_four(pixels, k + j, before, out, next);
         before = pixels[k + j + 3];
         j += 4;
@@ -147,15 +146,15 @@ fn write_each(pixels: &[i64], k: usize, n: usize, last: i64, out: &mut [u8], at:
     next
 }
 
-// The n pixels from k on, at most 32.
+// The n pixels from k on, at most 128.
 fn write_few(pixels: &[i64], k: usize, n: usize, last: i64, out: &mut [u8], at: usize) -> usize
-    requires { ⌜ Writable (now pixels) k n last (now out) at × (n ≤ 32) ⌝ }
+    requires { ⌜ Writable (now pixels) k n last (now out) at × (n ≤ 128) ⌝ }
     ensures { λ r. ⌜ Wrote (now (pixels .entry)) k n last (now (out .entry)) at (now (out .exit)) r ⌝ }
 {
-    if n < 32 {
+    if n < 128 {
         return write_each(pixels, k, n, last, out, at);
     }
-    write_32(pixels, k, last, out, at)
+    write_128(pixels, k, last, out, at)
 }
 
 // The octets of all pixels, written to out from start on; the place after them.
@@ -170,7 +169,7 @@ pub fn write_octets(pixels: &[i64], out: &mut [u8], start: usize) -> usize
     while k < pixels.len() {
         let mut n = window::window_run(pixels, k, last);
         if n == 0 {
-            n = plain::part(pixels.len() - k);
+            n = window::part(pixels.len() - k);
             at = write_few(pixels, k, n, last, out, at);
         } else {
             write_run(pixels, k, n, last, out, at);

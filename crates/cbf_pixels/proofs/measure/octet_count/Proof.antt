@@ -39,7 +39,7 @@ part-requires : tie.Need-part-requires Inv-loop μ-loop
 part-requires c κs = search needs
 
 size-of-part-requires : tie.Need-size-of-part-requires Inv-loop μ-loop
-size-of-part-requires c κs = 
+size-of-part-requires c κs =
     let l = c .before .before .before .before .loop in (
       l .inv .0 .typed,
       omega (arith, c .part .ensures .0),

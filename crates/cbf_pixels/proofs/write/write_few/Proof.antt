@@ -17,10 +17,10 @@ same-length c = search needs
 returns : tie.Need-returns
 returns c = wrote-word (c .before .before .before .before .before .before .pre .0 .before) (c .before .before .write-each .ensures)
 
-write-32-requires : tie.Need-write-32-requires
-write-32-requires c κs =
+write-128-requires : tie.Need-write-128-requires
+write-128-requires c κs =
     let s = c .before .before .before in
-    let e : s .args .n ≡ 32 = omega arith in
+    let e : s .args .n ≡ 128 = omega arith in
     writable-word (subst (λ (m : ℕ). Writable (s .args .pixels .now) (s .args .k) m (s .args .last) (s .args .out .now) (s .args .at)) e (s .pre .0))
 
 same-length-2 : tie.Need-same-length-2
@@ -29,9 +29,9 @@ same-length-2 c = search needs
 returns-2 : tie.Need-returns-2
 returns-2 c =
     let s = c .before .before .before .before .before .before in
-    wrote-as (wrote-word (s .pre .0 .before) (c .before .before .write-32 .ensures)) (omega arith) refl refl
+    wrote-as (wrote-word (s .pre .0 .before) (c .before .before .write-128 .ensures)) (omega arith) refl refl
 
 pub write-few-spec : {M : Type 1} → statement M
 write-few-spec =
     tie.close
-    (tie.spec write-each-requires same-length returns write-32-requires same-length-2 returns-2)
+    (tie.spec write-each-requires same-length returns write-128-requires same-length-2 returns-2)

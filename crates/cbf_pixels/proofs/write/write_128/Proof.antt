@@ -1,19 +1,19 @@
--- `write::write_32` meets its contract: the loop has written the first j pixels, and j is a multiple of 4. Assumes nothing.
+-- `write::write_128` meets its contract: the loop has written the first j pixels, and j is a multiple of 4. Assumes nothing.
 use Prim.Native.Nat.{_+_, _-_, _%_}
 use native.Mathlib.Omega.{arith}
 use mathlib.Core.Path.{_≡_, refl}
 use mir.Syntax.{w64}
 use mir.Val.{toZ}
 use Rattle.cbf_pixels.proofs.Writing.{wrote-length, writable-word, Upto, upto-none, upto-all, upto-writable, upto-more}
-use Rattle.cbf_pixels.proofs.write.write_32.Statement.{statement}
-use Rattle.cbf_pixels.proofs.write.write_32.Tie as tie
+use Rattle.cbf_pixels.proofs.write.write_128.Statement.{statement}
+use Rattle.cbf_pixels.proofs.write.write_128.Tie as tie
 
 abbrev Inv-loop : tie.InvT-loop
 Inv-loop pixels k last out₀ at before₀ next₀ j₀ out before next j =
-    Upto pixels k 32 (toZ w64 last) out₀ at j out before next × (j % 4 ≡ 0)
+    Upto pixels k 128 (toZ w64 last) out₀ at j out before next × (j % 4 ≡ 0)
 
 abbrev μ-loop : tie.MeasureT-loop
-μ-loop pixels k last out₀ at before₀ next₀ j₀ out before next j = 32 - j
+μ-loop pixels k last out₀ at before₀ next₀ j₀ out before next j = 128 - j
 
 loop-holds : tie.Need-loop-holds Inv-loop μ-loop
 loop-holds c = (upto-none refl refl, omega arith)
@@ -57,8 +57,8 @@ same-length c = wrote-length (c .before .loop .inv .0 .wrote)
 returns : tie.Need-returns Inv-loop μ-loop
 returns c = upto-all (c .before .loop .inv .0) (c .before .before .before .pre .before) (omega arith)
 
-pub write-32-spec : {M : Type 1} → statement M
-write-32-spec =
+pub write-128-spec : {M : Type 1} → statement M
+write-128-spec =
     tie.close
     (tie.spec
     Inv-loop
