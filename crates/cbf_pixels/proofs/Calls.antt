@@ -1,7 +1,7 @@
 -- What the public calls answer in each case, and what they leave in the lent output. Assumes nothing.
 use Prim.Native.Nat.{ℕ, zero, suc, _+_, _*_, _-_, _^_, _<_, _≤_}
 use native.Mathlib.Omega.{arith}
-use mathlib.Core.Path.{_≡_, refl, sym, ap, _∙_}
+use mathlib.Core.Path.{_≡_, refl, sym, ap, subst, _∙_}
 use mathlib.Core.List.{List, [], _∷_, _++_}
 use mathlib.Core.Bool.{Bool, true, false}
 use lib.Dec.{leb}
@@ -22,6 +22,7 @@ use Rattle.cbf_pixels.specs.Answers.{Outcome, gives, refuses, written, p
 use Rattle.cbf_pixels.specs.Steps.{sizeOf, Small, AllSmall}
 use Rattle.cbf_pixels.proofs.Integers.{pick-left, pick-right, within-small}
 use Rattle.cbf_pixels.proofs.Numbers.{abs-le}
+use Rattle.cbf_pixels.proofs.Bounds.{packed-bounds, packed-limit}
 use Rattle.cbf_pixels.proofs.Loading.{read-some, read-none}
 
 -- ---- unpacking
@@ -122,3 +123,18 @@ module _ (t : ElementType) (ps : List ℤ) (out : List ℕ) where
         let e : 0 + length (packByteOffset ps) ≡ n = omega (arith, s .1) in
         rw (le-leb (length ps) pixelLimit h, s .0, s .1, le-leb n octetLimit l, le-leb n (length out) r)
         (refl, q ∙ sets-eq (packByteOffset ps) out 0 (omega (arith, s .1)) ∙ ap (λ (m : ℕ). packByteOffset ps ++ drop m out) e)
+
+  -- where there is room for 15 octets a pixel
+  pub ample-size : allWithin (least t) (greatest t) ps ≡ true → Octets (length (packByteOffset ps)) ≡ sizeOf t ps
+  unfolding sizeOf pick
+  ample-size e = rw e
+
+  module _ (h : length ps ≤ pixelLimit) (e : allWithin (least t) (greatest t) ps ≡ true) (r : 15 * length ps ≤ length out) where
+    pub ample-write : AllSmall ps × (0 + length (packByteOffset ps) ≤ length out)
+    ample-write = may-write (length (packByteOffset ps)) h (ample-size e) (omega (arith, packed-bounds ps .1))
+
+    pub ample-done : (n : ℕ) (out′ : List ℕ) → n ≡ 0 + length (packByteOffset ps) → out′ ≡ sets out 0 (packByteOffset ps) → Packed (gives n) out′
+    ample-done n out′ q w =
+        let i : length (packByteOffset ps) ≡ n = omega arith in
+        subst (λ (m : ℕ). Packed (gives m) out′) i
+        (pack-done (length (packByteOffset ps)) h (ample-size e) out′ (packed-limit ps h) (omega (arith, packed-bounds ps .1)) w)

@@ -7,7 +7,7 @@ use mathlib.Core.Bool.{Bool, true, false}
 use mathlib.Core.List.{List, [], _∷_}
 use lib.Dec.{ltb, leb}
 use lib.ListN.{length, take, getD, length-append}
-use lib.Seq.{drop-cons}
+use lib.Seq.{drop-cons, take-length}
 use lib.IntN.{ℤ, pos, negsuc, natAbs, subℕ, _-ℤ_, pos-ne-negsuc}
 use lib.Signed.{mag, leZ, ltZ}
 use mir.Syntax.{w32}
@@ -170,3 +170,12 @@ part-near lo hi ps k n last size p h l each e =
     let a = each-all lo hi ps k n h
     (λ j g. let r : k - 1 + (j + 1) ≡ k + j = omega arith in subst (λ (i : ℕ). within lo hi (getD ps i (pos 0)) ≡ true) r (each (j + 1) (omega arith))) in
     e ∙ ap₂ (λ (z : ℤ) (i : ℕ). length (packFrom z (part ps i n))) (sym l) q ∙ sym (size-is lo hi last (part ps k n) a)
+
+-- all pixels of a type
+pub all-within : (t : ElementType) (lo : ℤ) (top : ℕ) (ps : List ℤ) → lo ≡ least t → pos top ≡ greatest t → EachWithin ps 0 (length ps) (lowest (ltZ lo (pos 0)) top) (pos top)
+    → allWithin (least t) (greatest t) ps ≡ true
+all-within t lo top ps l g each =
+    let h : leZ (pos top) (greatest t) ≡ true = subst (λ (z : ℤ). leZ (pos top) z ≡ true) g (le-leb top top (omega arith)) in
+    let each′ : EachWithin ps 0 (length ps) (least t) (greatest t) = λ j i.
+    wider (range-is t) top (getD ps (0 + j) (pos 0)) h (subst (λ (z : ℤ). within (lowest (ltZ z (pos 0)) top) (pos top) (getD ps (0 + j) (pos 0)) ≡ true) l (each j i)) .0 in
+    ap (allWithin (least t) (greatest t)) (sym (take-length ps)) ∙ each-all (least t) (greatest t) ps 0 (length ps) (omega arith) each′

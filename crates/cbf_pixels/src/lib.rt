@@ -72,14 +72,12 @@ fn refused(number: u32) -> Answer
     })
 }
 
-// Packs pixels by the byte-offset rule.
-pub fn pack(kind: ElementType, pixels: &[i64], out: &mut [u8]) -> Answer
+// Packs pixels of which there are at most the pixel limit: how many octets they take is known before the first is written.
+fn pack_counted(kind: ElementType, pixels: &[i64], out: &mut [u8]) -> Answer
+    requires { ⌜ length (now pixels) ≤ 67108864 ⌝ }
     ensures answer { λ r. ⌜ outcome r ≡ packOutcome kind (now (pixels .entry)) (length (now (out .entry))) ⌝ }
     ensures output { λ _. ⌜ now (out .exit) ≡ packOutput kind (now (pixels .entry)) (now (out .entry)) ⌝ }
 {
-    if 67108864 < pixels.len() {
-        return refused(14);
-    }
     let size = measure::octet_count(kind, pixels);
     match size {
         Size::Outside => refused(14),
@@ -94,6 +92,24 @@ pub fn pack(kind: ElementType, pixels: &[i64], out: &mut [u8]) -> Answer
             Answer::Length(n)
         }
     }
+}
+
+// Packs pixels by the byte-offset rule. Where there is room for the most octets that pixels can take, they are not counted.
+pub fn pack(kind: ElementType, pixels: &[i64], out: &mut [u8]) -> Answer
+    ensures answer { λ r. ⌜ outcome r ≡ packOutcome kind (now (pixels .entry)) (length (now (out .entry))) ⌝ }
+    ensures output { λ _. ⌜ now (out .exit) ≡ packOutput kind (now (pixels .entry)) (now (out .entry)) ⌝ }
+{
+    if 67108864 < pixels.len() {
+        return refused(14);
+    }
+    if out.len() < 15 * pixels.len() {
+        return pack_counted(kind, pixels, out);
+    }
+    if !measure::all_typed(kind, pixels) {
+        return pack_counted(kind, pixels, out);
+    }
+    let n = write::write_octets(pixels, out, 0);
+    Answer::Length(n)
 }
 
 fn unpack_uncompressed(kind: ElementType, octets: &[u8], count: usize, out: &mut [i64]) -> Answer

@@ -10,7 +10,7 @@ ghost use lib.ListN.{length, getD};
 ghost use lib.IntN.{pos, natAbs, _-ℤ_};
 ghost use lib.Signed.{mag, leZ};
 ghost use mathlib.Core.List.{[], _∷_};
-ghost use Rattle.cbf_pixels.specs.Pixels.{least, greatest, within, packDifference, packFrom};
+ghost use Rattle.cbf_pixels.specs.Pixels.{least, greatest, within, allWithin, packDifference, packFrom};
 ghost use Rattle.cbf_pixels.specs.Steps.{Typed, EachWithin, EachNear, over, part, sizeWithin, sizeOf};
 
 fn least_of(kind: ElementType) -> i64
@@ -28,6 +28,19 @@ fn least_of(kind: ElementType) -> i64
 
 fn greatest_of(kind: ElementType) -> i64
     ensures { λ r. ⌜ r ≡ greatest kind ⌝ }
+{
+    match kind {
+        ElementType::U8 => 255,
+        ElementType::S8 => 127,
+        ElementType::U16 => 65535,
+        ElementType::S16 => 32767,
+        ElementType::U32 => 4294967295,
+        ElementType::S32 => 2147483647,
+    }
+}
+
+fn top_of(kind: ElementType) -> u64
+    ensures { λ r. ⌜ (pos r ≡ greatest kind) × (r < 2 ^ 63) ⌝ }
 {
     match kind {
         ElementType::U8 => 255,
@@ -207,4 +220,14 @@ pub fn octet_count(kind: ElementType, pixels: &[i64]) -> Size
         last = pixels[k - 1];
     }
     Size::Octets(total)
+}
+
+// Whether all pixels are in their type: true only where they are.
+pub fn all_typed(kind: ElementType, pixels: &[i64]) -> bool
+    ensures { λ r. ⌜ (r ≡ true → allWithin (least kind) (greatest kind) (now (pixels .entry)) ≡ true) ⌝ }
+{
+    let signed = least_of(kind) < 0;
+    let top = top_of(kind);
+    let n = pixels.len();
+    range::each_within(pixels, 0, n, signed, top)
 }

@@ -1,6 +1,7 @@
-use mathlib.Core.Path.{_≡_, sym, _∙_}
-use Rattle.cbf_pixels.proofs.Calls.{Packed, pack-many, pack-outside, pack-large, pack-no-room, may-write, pack-done}
+use mathlib.Core.Path.{_∙_}
+use borrow.Author.Tests.{not-false}
 use borrow.Author.Needs.{needs}
+use Rattle.cbf_pixels.proofs.Calls.{Packed, pack-many, ample-write, ample-done}
 use Rattle.cbf_pixels.proofs.pack.Statement.{statement}
 use Rattle.cbf_pixels.proofs.pack.Tie as tie
 
@@ -14,58 +15,45 @@ returns c =
     let u = pack-many (a .kind) (a .pixels .now) (a .out .now) (c .before .if1 .taken) in
     (c .refused .ensures ∙ u .0, u .1)
 
-octet-count-requires : tie.Need-octet-count-requires
-octet-count-requires c κs = search needs
+mul-if2 : tie.Need-mul-if2
+mul-if2 c = search needs
 
-enum-told : tie.Need-enum-told
-enum-told c = search needs
-
-refused-requires-2 : tie.Need-refused-requires-2
-refused-requires-2 c κs = search needs
-
-enum-known-size : tie.Need-enum-known-size
-enum-known-size c = search needs
-
-refused-requires-3 : tie.Need-refused-requires-3
-refused-requires-3 c κs = search needs
-
-returns-2 : tie.Need-returns-2
-unfolding Packed
-returns-2 c =
-    let a = c .before .before .before .before .before .before .before .before .args in
-    let u = pack-large (a .kind) (a .pixels .now) (a .out .now) _ (c .before .before .before .before .before .before .if1 .left) (sym (c .before .before .before .size .given .1) ∙ c .before .before .before .before .before .octet-count .ensures) (c .before .if2 .taken) in
-    (c .refused3 .ensures ∙ u .0, u .1)
-
-refused-requires-4 : tie.Need-refused-requires-4
-refused-requires-4 c κs = search needs
-
-returns-3 : tie.Need-returns-3
-unfolding Packed
-returns-3 c =
-    let a = c .before .before .before .before .before .before .before .before .before .args in
-    let u = pack-no-room (a .kind) (a .pixels .now) (a .out .now) _ (c .before .before .before .before .before .before .before .if1 .left) (sym (c .before .before .before .before .size .given .1) ∙ c .before .before .before .before .before .before .octet-count .ensures) (c .before .before .if2 .left) (c .before .if3 .taken) in
-    (c .refused4 .ensures ∙ u .0, u .1)
-
-write-octets-requires : tie.Need-write-octets-requires
-write-octets-requires c κs =
-    let a = c .before .before .before .before .before .before .before .before .before .args in
-    may-write (a .kind) (a .pixels .now) (a .out .now) _ (c .before .before .before .before .before .before .before .if1 .left) (sym (c .before .before .before .before .size .given .1) ∙ c .before .before .before .before .before .before .octet-count .ensures) (c .before .if3 .left)
-
-returns-4 : tie.Need-returns-4
-unfolding Packed
-returns-4 c =
-    let a = c .before .before .before .before .before .before .args in
-    let u = pack-outside (a .kind) (a .pixels .now) (a .out .now) (c .before .before .before .before .if1 .left) (sym (c .before .enum-told .given .1) ∙ c .before .before .before .octet-count .ensures) in
-    (c .refused2 .ensures ∙ u .0, u .1)
+pack-counted-requires : tie.Need-pack-counted-requires
+pack-counted-requires c κs = search needs
 
 same-length : tie.Need-same-length
 same-length c = search needs
 
-returns-5 : tie.Need-returns-5
+returns-2 : tie.Need-returns-2
+returns-2 c = search needs
+
+all-typed-requires : tie.Need-all-typed-requires
+all-typed-requires c κs = search needs
+
+pack-counted-requires-2 : tie.Need-pack-counted-requires-2
+pack-counted-requires-2 c κs = search needs
+
+same-length-2 : tie.Need-same-length-2
+same-length-2 c = search needs
+
+returns-3 : tie.Need-returns-3
+returns-3 c = search needs
+
+write-octets-requires : tie.Need-write-octets-requires
+write-octets-requires c κs =
+    let a = c .before .before .before .before .before .before .args in
+    ample-write (a .kind) (a .pixels .now) (a .out .now) (c .before .before .before .before .if1 .left) (c .before .before .all-typed .ensures (not-false (c .before .before .all-typed .result) (c .before .if3 .left))) (c .before .before .before .if2 .left)
+
+same-length-3 : tie.Need-same-length-3
+same-length-3 c = search needs
+
+returns-4 : tie.Need-returns-4
 unfolding Packed
-returns-5 c =
-    let a = c .before .before .before .before .before .before .before .before .before .before .before .before .args in
-    pack-done (a .kind) (a .pixels .now) (a .out .now) _ (c .before .before .before .before .before .before .before .before .before .before .if1 .left) (sym (c .before .before .before .before .before .before .before .size .given .1) ∙ c .before .before .before .before .before .before .before .before .before .octet-count .ensures) _ (c .before .before .before .before .before .if2 .left) (c .before .before .before .before .if3 .left) (c .before .before .write-octets .ensures .1)
+returns-4 c =
+    let a = c .before .before .before .before .before .before .before .before .before .args in
+    let t = c .before .before .before .before .before .all-typed in
+    ample-done (a .kind) (a .pixels .now) (a .out .now) (c .before .before .before .before .before .before .before .if1 .left) (t .ensures (not-false (t .result) (c .before .before .before .before .if3 .left))) (c .before .before .before .before .before .before .if2 .left) _ _
+    (c .before .before .write-octets .ensures .0) (c .before .before .write-octets .ensures .1)
 
 pub pack-spec : {M : Type 1} → statement M
 pack-spec =
@@ -73,15 +61,14 @@ pack-spec =
     (tie.spec
     refused-requires
     returns
-    octet-count-requires
-    enum-told
-    refused-requires-2
-    enum-known-size
-    refused-requires-3
+    mul-if2
+    pack-counted-requires
+    same-length
     returns-2
-    refused-requires-4
+    all-typed-requires
+    pack-counted-requires-2
+    same-length-2
     returns-3
     write-octets-requires
-    returns-4
-    same-length
-    returns-5)
+    same-length-3
+    returns-4)
