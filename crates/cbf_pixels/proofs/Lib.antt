@@ -21,3 +21,4 @@ pub mod Writing
 pub mod UncompressedPixels
 pub mod Loading
 pub mod Calls
+pub mod Over

@@ -291,6 +291,36 @@ pub record Wrote (ps : List ℤ) (k n : ℕ) (last : ℤ) (out : List ℕ) (at :
   pub octets : out′ ≡ sets out at (packFrom last (part ps k n))
   pub after : next ≡ at + length (packFrom last (part ps k n))
 
+-- the same, with octets behind them that are written over later, at most limit: without those it is clean
+pub record WroteOver (ps : List ℤ) (k n : ℕ) (last : ℤ) (out : List ℕ) (at : ℕ) (out′ : List ℕ) (next limit : ℕ) : Type 0 where
+  pub clean : List ℕ
+  pub wrote : Wrote ps k n last out at clean next
+  pub behind : List ℕ
+  pub few : length behind ≤ limit
+  pub is : out′ ≡ sets clean next behind
+
+-- one difference in a store of at least eight octets
+pub record PutOver (d : ℤ) (out : List ℕ) (at : ℕ) (out′ : List ℕ) (next : ℕ) : Type 0 where
+  pub behind : List ℕ
+  pub few : length behind ≤ 7
+  pub octets : out′ ≡ sets out at (P.packDifference d ++ behind)
+  pub long : 7 ≤ length (P.packDifference d ++ behind)
+  pub after : next ≡ at + length (P.packDifference d)
+
+-- of differences of one, three and seven octets: by how many bits the number is shifted, the escapes before it, and the length
+abbrev pub forms : List ℕ
+forms = 0 ∷ 8 ∷ 24 ∷ 0 ∷ 128 ∷ 8388736 ∷ 1 ∷ 3 ∷ 7 ∷ []
+
+unfoldable pub storedAs : ℕ → ℕ → ℕ
+storedAs zero n = n
+storedAs (suc zero) n = n * 256 + 128
+storedAs (suc (suc c)) n = n * 16777216 + 8388736
+
+unfoldable pub formLength : ℕ → ℕ
+formLength zero = 1
+formLength (suc zero) = 3
+formLength (suc (suc c)) = 7
+
 -- ---- Uncompressed pixels
 
 -- the octets of an element of some type

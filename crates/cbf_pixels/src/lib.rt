@@ -1,5 +1,6 @@
 // The pixels of a binary section: packed to octets by the byte-offset rule, and unpacked from octets of either
 // compression. What octets stand for, and what each call answers, is in specs/.
+mod dense;
 mod difference;
 mod fill;
 mod measure;

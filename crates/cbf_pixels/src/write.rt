@@ -40,7 +40,7 @@ fn put_7(out: &mut [u8], at: usize, n: u64)
     octets::put4(out, at + 3, n);
 }
 
-fn put_15(out: &mut [u8], at: usize, n: u64)
+pub fn put_15(out: &mut [u8], at: usize, n: u64)
     requires { ⌜ at + 15 ≤ length (now out) ⌝ }
     ensures { λ _. ⌜ now (out .exit) ≡ sets (now (out .entry)) at (octetsOf 1 128 ++ octetsOf 2 32768 ++ octetsOf 4 2147483648 ++ octetsOf 8 n) ⌝ }
 {

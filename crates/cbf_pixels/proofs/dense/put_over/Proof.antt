@@ -1,0 +1,126 @@
+use Prim.Native.Nat.{ℕ, _+_, _<_, _≤_}
+use native.Mathlib.Omega.{arith}
+use mathlib.Core.Path.{_≡_, refl, sym, ap, subst, _∙_}
+use mathlib.Core.List.{_++_}
+use mathlib.Core.Bool.{Bool}
+use lib.IntN.{ℤ, pos, natAbs, _+ℤ_}
+use lib.ListN.{length}
+use lib.Seq.{sets}
+use borrow.Author.Tests.{not-true, not-false}
+use mir.Facts.{toZ-ofZ}
+use Rattle.cbf_pixels.specs.Octets.{octets, bits}
+use Rattle.cbf_pixels.specs.Steps.{over, storedAs, formLength}
+use Rattle.cbf_pixels.proofs.Forms.{narrow-true, narrow-false, Form, form8}
+use Rattle.cbf_pixels.proofs.Ranges.{over-few}
+use Rattle.cbf_pixels.proofs.Writing.{form-room, form-done}
+use Rattle.cbf_pixels.proofs.Over.{Stored, stored, raised-is, put-stored, put-far}
+use borrow.Author.Needs.{needs}
+use Rattle.cbf_pixels.proofs.dense.put_over.Statement.{statement}
+use Rattle.cbf_pixels.proofs.dense.put_over.Tie as tie
+
+narrow-requires : tie.Need-narrow-requires
+narrow-requires c κs = search needs
+
+bits-of-far-requires : tie.Need-bits-of-far-requires
+bits-of-far-requires c κs = search needs
+
+form-15 : (c : tie.Then1) → Form (c .before .before .before .args .d) 15 (octets 1 128 ++ octets 2 32768 ++ octets 4 2147483648 ++ octets 8 (bits 8 (c .before .before .before .args .d)))
+form-15 c =
+    let s = c .before .before .before in
+    form8 (s .args .d) (narrow-false (s .args .d) 2147483648 (c .before .narrow .result) (s .fits .d) (c .before .narrow .ensures) (not-true (c .before .narrow .result) (c .if1 .taken)))
+
+near : (c : tie.Else1) → natAbs (c .before .before .before .args .d) < 2147483648
+near c =
+    let s = c .before .before .before in
+    narrow-true (s .args .d) 2147483648 (c .before .narrow .result) (s .fits .d) (c .before .narrow .ensures) (not-false (c .before .narrow .result) (c .if1 .left))
+
+put-15-requires : tie.Need-put-15-requires
+put-15-requires c κs =
+    let s = c .before .before .before .before .before in
+    form-room (s .args .at) _ (form-15 (c .before .before)) (s .pre .2)
+
+add-result : tie.Need-add-result
+add-result c = search needs
+
+same-length : tie.Need-same-length
+same-length c = search needs
+
+returns : tie.Need-returns
+returns c =
+    let s = c .before .before .before .before .before .before .before .before in
+    let out = s .args .out .now in
+    let f = form-15 (c .before .before .before .before .before) in
+    let w = c .before .before .before .bits-of-far .ensures ∙ ap (bits 8) (toZ-ofZ (s .fits .d)) in
+    put-far (s .args .d) out (s .args .at) _ _ (omega (arith, ap length (f .is), f .long))
+    (form-done out (s .args .at) _ f
+    (c .before .before .put-15 .ensures ∙ ap (λ (n : ℕ). sets out (s .args .at) (octets 1 128 ++ octets 2 32768 ++ octets 4 2147483648 ++ octets 8 n)) w))
+
+beyond-requires : tie.Need-beyond-requires
+beyond-requires c κs = search needs
+
+beyond-requires-2 : tie.Need-beyond-requires-2
+beyond-requires-2 c κs = search needs
+
+-- how many widths do not hold the difference
+held-over : (c : tie.After-beyond2) → c .before .beyond .result + c .beyond2 .result ≡ over (c .before .before .before .before .before .args .d) 128 + over (c .before .before .before .before .before .args .d) 32768
+held-over c =
+    let s = c .before .before .before .before .before in
+    let a = c .before .beyond .ensures ∙ ap (λ (z : ℤ). over z 128) (toZ-ofZ (s .fits .d)) in
+    let e = c .beyond2 .ensures ∙ ap (λ (z : ℤ). over z 32768) (toZ-ofZ (s .fits .d)) in
+    omega arith
+
+few-over : (c : tie.After-beyond2) → c .before .beyond .result + c .beyond2 .result ≤ 2
+few-over c = omega (arith, held-over c, over-few (c .before .before .before .before .before .args .d) 128, over-few (c .before .before .before .before .before .args .d) 32768)
+
+add-c : tie.Need-add-c
+add-c c = omega (arith, few-over c)
+
+raised-requires : tie.Need-raised-requires
+raised-requires c κs = subst (λ (z : ℤ). natAbs z < 2147483648) (sym (toZ-ofZ (c .before .before .before .before .before .fits .d))) (near (c .before .before))
+
+stored-requires : tie.Need-stored-requires
+stored-requires c κs = (c .before .before .before .before .before .before .pre .0, few-over (c .before), c .raised .ensures .1)
+
+put8-requires : tie.Need-put8-requires
+put8-requires c κs = search needs
+
+form-length-requires : tie.Need-form-length-requires
+form-length-requires c κs = (c .before .before .before .before .before .before .before .before .before .before .before .pre .0, few-over (c .before .before .before .before .before .before))
+
+add-result-2 : tie.Need-add-result-2
+add-result-2 c = search needs
+
+same-length-2 : tie.Need-same-length-2
+same-length-2 c = search needs
+
+returns-2 : tie.Need-returns-2
+returns-2 c =
+    let s = c .before .before .before .before .before .before .before .before .before .before .before .before in
+    let r = c .before .before .before .before .before .before .raised in
+    let w = c .before .before .before .before .before .before .before in
+    let n = raised-is (s .args .d) (r .result) (near (w .before .before)) (r .ensures .0 ∙ ap (λ (z : ℤ). z +ℤ pos 4294967296) (toZ-ofZ (s .fits .d))) in
+    let t = stored (s .args .d) (r .result) (w .before .beyond .result + w .beyond2 .result) (near (w .before .before)) n (held-over w) in
+    put-stored (s .args .out .now) (s .args .at) _ _ t
+    (c .before .before .before .put8 .ensures ∙ ap (λ (m : ℕ). sets (s .args .out .now) (s .args .at) (octets 8 m)) (c .before .before .before .before .before .stored .ensures))
+    (ap (λ (m : ℕ). s .args .at + m) (c .form-length .ensures .0))
+
+pub put-over-spec : {M : Type 1} → statement M
+put-over-spec =
+    tie.close
+    (tie.spec
+    narrow-requires
+    bits-of-far-requires
+    put-15-requires
+    add-result
+    same-length
+    returns
+    beyond-requires
+    beyond-requires-2
+    add-c
+    raised-requires
+    stored-requires
+    put8-requires
+    form-length-requires
+    add-result-2
+    same-length-2
+    returns-2)
