@@ -15,13 +15,13 @@ use mir.Val.{toZ, ofZ}
 use borrow.Author.Tests.{ltb-true, ltb-false}
 use Rattle.cbf_pixels.specs.Octets.{octets, bits}
 use Rattle.cbf_pixels.specs.Pixels.{packDifference, packFrom}
-use Rattle.cbf_pixels.specs.Steps.{over, forms, storedAs, formLength, PutOver, Small, part, Writable, WroteOver}
+use Rattle.cbf_pixels.specs.Steps.{over, forms, storedAs, formLength, PutOver, Small, part, lastOf, Writable, Wrote, WroteOver}
 use Rattle.cbf_pixels.proofs.Numbers.{length-octets}
 use Rattle.cbf_pixels.proofs.Bounds.{from-bounds}
 use Rattle.cbf_pixels.proofs.Little.{octets-add, sets-append}
 use Rattle.cbf_pixels.proofs.Forms.{form1, form2, form4, form8, form-size}
 use Rattle.cbf_pixels.proofs.Ranges.{over-no, over-yes}
-use Rattle.cbf_pixels.proofs.Writing.{lifted, lifted-is, lifted-bits, gap, wrote-length, wrote-as, wrote-word, Upto, upto-none, upto-writable, upto-one}
+use Rattle.cbf_pixels.proofs.Writing.{lifted, lifted-is, lifted-bits, gap, wrote-length, wrote-as, wrote-word, Upto, upto-none, upto-writable, upto-more, upto-one, wrote-none, writable-then}
 
 -- ---- the table
 
@@ -190,10 +190,11 @@ pub record Along (ps : List ℤ) (k n : ℕ) (last : ℤ) (out : List ℕ) (at j
   pub upto : Upto ps k n last out at j clean word next
   pub behind : List ℕ
   pub few : length behind ≤ limit
+  pub seven : length behind ≤ 7
   pub is : out′ ≡ sets clean next behind
 
 pub along-none : {ps : List ℤ} {k n : ℕ} {last : ℤ} {out : List ℕ} {at word next limit : ℕ} → toZ w64 word ≡ last → next ≡ at → Along ps k n last out at 0 out word next limit
-along-none {out = out} e q = record { clean = out; upto = upto-none e q; behind = []; few = omega arith; is = refl }
+along-none {out = out} e q = record { clean = out; upto = upto-none e q; behind = []; few = omega arith; seven = omega arith; is = refl }
 
 along-length : {ps : List ℤ} {k n : ℕ} {last : ℤ} {out : List ℕ} {at j : ℕ} {out′ : List ℕ} {word next limit : ℕ} (a : Along ps k n last out at j out′ word next limit) → length out′ ≡ length (a .clean)
 along-length {next = next} a = ap length (a .is) ∙ length-sets (a .clean) next (a .behind)
@@ -225,6 +226,7 @@ along-one {ps} {k} {n} {last} {out} {at} {j} {out′} {word} {next} w a i e l {o
       upto = upto-one w (a .upto) i e l (p .after, refl);
       behind = p .behind;
       few = p .few;
+      seven = p .few;
       is =
           p .octets
           ∙ ap (λ (o : List ℕ). sets o next (d ++ p .behind)) (a .is)
@@ -237,4 +239,69 @@ along-one {ps} {k} {n} {last} {out} {at} {j} {out′} {word} {next} w a i e l {o
 pub along-all : {ps : List ℤ} {k n N : ℕ} {last : ℤ} {out : List ℕ} {at j : ℕ} {out′ : List ℕ} {word next limit : ℕ} → Along ps k N (toZ w64 (ofZ w64 last)) out at j out′ word next limit → Small last → n ≡ j
     → WroteOver ps k n last out at out′ next limit
 along-all a h e =
-    record { clean = a .clean; wrote = wrote-word h (wrote-as (a .upto .wrote) e refl refl); behind = a .behind; few = a .few; is = a .is }
+    record { clean = a .clean; wrote = wrote-word h (wrote-as (a .upto .wrote) e refl refl); behind = a .behind; few = a .few; seven = a .seven; is = a .is }
+
+-- ---- parts
+
+-- fewer have room too
+pub writable-few : {ps : List ℤ} {k n : ℕ} {last : ℤ} {out : List ℕ} {at : ℕ} → Writable ps k n last out at → (m : ℕ) → m ≤ n → Writable ps k m last out at
+unfolding lastOf
+writable-few {ps} {k} {n} {last} {out} {at} w m l =
+    let q : k + 0 ≡ k = omega arith in
+    subst (λ (r : ℕ). Writable ps r m last out at) q (writable-then ps k last out at n 0 m out at w (omega arith) (wrote-none ps k last out at at refl))
+
+-- nothing more was written
+pub over-none : {ps : List ℤ} {k n : ℕ} {last : ℤ} {out : List ℕ} {at : ℕ} {out′ : List ℕ} {next : ℕ} → Wrote ps k n last out at out′ next → (limit : ℕ) → WroteOver ps k n last out at out′ next limit
+over-none {out′ = out′} w limit = record { clean = out′; wrote = w; behind = []; few = omega arith; seven = omega arith; is = refl }
+
+pub over-limit : {ps : List ℤ} {k n : ℕ} {last : ℤ} {out : List ℕ} {at : ℕ} {out′ : List ℕ} {next limit : ℕ} → WroteOver ps k n last out at out′ next limit → (limit′ : ℕ) → limit ≤ limit′ → WroteOver ps k n last out at out′ next limit′
+over-limit w limit′ l = record { clean = w .clean; wrote = w .wrote; behind = w .behind; few = omega (arith, w .few); seven = w .seven; is = w .is }
+
+pub over-word : {ps : List ℤ} {k n : ℕ} {last : ℤ} {out : List ℕ} {at : ℕ} {out′ : List ℕ} {next limit : ℕ} → Small last → WroteOver ps k n (toZ w64 (ofZ w64 last)) out at out′ next limit → WroteOver ps k n last out at out′ next limit
+over-word h w = record { clean = w .clean; wrote = wrote-word h (w .wrote); behind = w .behind; few = w .few; seven = w .seven; is = w .is }
+
+-- a part that is written over what was behind
+wrote-cover : {ps : List ℤ} {k n : ℕ} {last : ℤ} {at : ℕ} {out out′ : List ℕ} {next : ℕ} (clean behind : List ℕ) → Wrote ps k n last out at out′ next → out ≡ sets clean at behind → length behind ≤ n → k + n ≤ length ps
+    → Wrote ps k n last clean at out′ next
+wrote-cover {ps} {k} {n} {last} {at} clean behind w e l h =
+    let xs = packFrom last (part ps k n) in
+    let s = from-bounds last (part ps k n) .0 in
+    record {
+      octets =
+          w .octets ∙ ap (λ (o : List ℕ). sets o at xs) e
+          ∙ sets-cover clean at behind xs (omega (arith, length-take-le n (drop k ps) (omega (arith, length-drop k ps))));
+      after = w .after;
+    }
+
+pub along-more : {ps : List ℤ} {k n : ℕ} {last : ℤ} {out : List ℕ} {at : ℕ} → Writable ps k n last out at → {j : ℕ} {out′ : List ℕ} {word next limit : ℕ} (a : Along ps k n last out at j out′ word next limit) (m i : ℕ)
+    → i ≡ k + j → j + m ≤ n → length (a .behind) ≤ m → (i′ : ℕ) {out″ : List ℕ} {next′ limit′ : ℕ} → i′ + 1 ≡ k + (j + m) → 0 < m → WroteOver ps i m (toZ w64 word) out′ next out″ next′ limit′
+    → Along ps k n last out at (j + m) out″ (ofZ w64 (getD ps i′ (pos 0))) next′ limit′
+along-more {ps} {k} {n} w a m i e l b i′ q p o =
+    record {
+      clean = o .clean;
+      upto = upto-more w (a .upto) m i e l i′ q p (wrote-cover (a .clean) (a .behind) (o .wrote) (a .is) b (omega (arith, w .pixels)));
+      behind = o .behind;
+      few = o .few;
+      seven = o .seven;
+      is = o .is;
+    }
+
+-- all of them: nothing is left behind
+pub along-end : {ps : List ℤ} {last : ℤ} {out : List ℕ} {at j : ℕ} {out′ : List ℕ} {word next : ℕ} → Along ps 0 (length ps) last out at j out′ word next (length ps - j) → length ps ≤ j → Wrote ps 0 (length ps) last out at out′ next
+along-end {ps} {next = next} a h = wrote-as (a .upto .wrote) (omega (arith, a .upto .few)) (a .is ∙ ap (sets (a .clean) next) (none (a .behind) (omega (arith, a .few)))) refl
+  where
+    none : (l : List ℕ) → length l ≡ 0 → l ≡ []
+    none [] e = refl
+    none (x ∷ l) e = let y : ⊥ = omega arith in absurd y
+
+pub over-as : {ps : List ℤ} {k n : ℕ} {last : ℤ} {out : List ℕ} {at : ℕ} {out′ : List ℕ} {next limit n′ : ℕ} {out″ : List ℕ} {next′ limit′ : ℕ} → WroteOver ps k n last out at out′ next limit → n′ ≡ n → out″ ≡ out′ → next′ ≡ next → limit ≤ limit′
+    → WroteOver ps k n′ last out at out″ next′ limit′
+over-as w e f g l =
+    record {
+      clean = w .clean;
+      wrote = wrote-as (w .wrote) e refl g;
+      behind = w .behind;
+      few = omega (arith, w .few);
+      seven = w .seven;
+      is = f ∙ w .is ∙ ap (λ (x : ℕ). sets (w .clean) x (w .behind)) (sym g);
+    }

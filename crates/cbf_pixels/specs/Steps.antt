@@ -297,6 +297,7 @@ pub record WroteOver (ps : List ℤ) (k n : ℕ) (last : ℤ) (out : List ℕ) (
   pub wrote : Wrote ps k n last out at clean next
   pub behind : List ℕ
   pub few : length behind ≤ limit
+  pub seven : length behind ≤ 7
   pub is : out′ ≡ sets clean next behind
 
 -- one difference in a store of at least eight octets

@@ -72,7 +72,15 @@ fn put_over(out: &mut [u8], at: usize, d: i64, table: &[u64; 9]) -> usize
 }
 
 // The n pixels from k on. At least seven are behind them.
-pub fn write_dense(pixels: &[i64], k: usize, n: usize, last: i64, out: &mut [u8], at: usize, table: &[u64; 9]) -> usize
+pub fn write_dense(
+    pixels: &[i64],
+    k: usize,
+    n: usize,
+    last: i64,
+    out: &mut [u8],
+    at: usize,
+    table: &[u64; 9],
+) -> usize
     requires { ⌜ (now table ≡ forms) × Writable (now pixels) k (n + 7) last (now out) at ⌝ }
     ensures { λ r. ⌜ WroteOver (now (pixels .entry)) k n last (now (out .entry)) at (now (out .exit)) r 7 ⌝ }
 {

@@ -128,11 +128,11 @@ fn near_difference(z: i64, last: i64) -> i32
 fn beyond(d: i32, half: u16) -> u32
     ensures { λ r. ⌜ r ≡ over d half ⌝ }
 {
-    let h = half as i32;
-    if d <= -h {
+    let side = half as i32;
+    if d <= -side {
         return 1;
     }
-    if d < h { 0 } else { 1 }
+    if d < side { 0 } else { 1 }
 }
 
 // The octets of the n pixels after i, without a branch for each.

@@ -51,9 +51,9 @@ pub fn window_run(pixels: &[i64], k: usize, last: i64) -> usize
     n
 }
 
-// How many pixels the next part has that stand in no window, where n are left.
+// How many pixels the next part has that stand in no window, where n are left: at least seven, unless fewer are left.
 pub fn part(n: usize) -> usize
-    ensures { λ r. ⌜ (r ≤ n) × (r ≤ 128) × (0 < n → 0 < r) ⌝ }
+    ensures { λ r. ⌜ (r ≤ n) × (r ≤ 128) × (0 < n → 0 < r) × ((m : ℕ) → m ≤ 7 → m ≤ n → m ≤ r) ⌝ }
 {
     if n < 128 { n } else { 128 }
 }

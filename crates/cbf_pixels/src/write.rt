@@ -1,10 +1,11 @@
 // The second pass of packing: the octets of pixels that are known to be in their type and to fit the output.
+use crate::dense;
 use crate::measure;
 use crate::octets;
 use crate::range;
 use crate::window;
 ghost use mathlib.Core.Path.{_≡_};
-ghost use Prim.Native.Nat.{ℕ, _+_, _%_, _<_, _≤_, _^_};
+ghost use Prim.Native.Nat.{ℕ, _+_, _-_, _%_, _<_, _≤_, _^_};
 ghost use mathlib.Core.Bool.{true};
 ghost use mathlib.Core.List.{_∷_, _++_};
 ghost use lib.ListN.{length, drop};
@@ -12,7 +13,7 @@ ghost use lib.Seq.{sets};
 ghost use lib.IntN.{pos, natAbs};
 ghost use Rattle.cbf_pixels.specs.Octets.{octets as octetsOf, bits, half as halfOf};
 ghost use Rattle.cbf_pixels.specs.Pixels.{packDifference, packFrom, packByteOffset};
-ghost use Rattle.cbf_pixels.specs.Steps.{Small, AllSmall, WindowRun, part, Writable, Wrote};
+ghost use Rattle.cbf_pixels.specs.Steps.{Small, AllSmall, WindowRun, part, Writable, Wrote, WroteOver, forms};
 
 // The number that a difference is written as in fewer than eight octets: size is how many numbers the width has.
 fn bits_of(d: i64, size: u64) -> u64
@@ -157,20 +158,46 @@ fn write_few(pixels: &[i64], k: usize, n: usize, last: i64, out: &mut [u8], at: 
     write_128(pixels, k, last, out, at)
 }
 
+// The n pixels from k on, where the part before took used octets. Where others are behind them, a few octets more may be
+// written, which are theirs.
+fn write_part(
+    pixels: &[i64],
+    k: usize,
+    n: usize,
+    last: i64,
+    out: &mut [u8],
+    at: usize,
+    used: usize,
+    table: &[u64; 9],
+) -> usize
+    requires { ⌜ (now table ≡ forms) × (n ≤ 128) × (k + n ≤ length (now pixels)) × Writable (now pixels) k (length (now pixels) - k) last (now out) at ⌝ }
+    ensures { λ r. ⌜ WroteOver (now (pixels .entry)) k n last (now (out .entry)) at (now (out .exit)) r (length (now (pixels .entry)) - (k + n)) ⌝ }
+{
+    let left = pixels.len() - k;
+    if dense::dense(used, n, left) {
+        return dense::write_dense(pixels, k, n, last, out, at, table);
+    }
+    write_few(pixels, k, n, last, out, at)
+}
+
 // The octets of all pixels, written to out from start on; the place after them.
 pub fn write_octets(pixels: &[i64], out: &mut [u8], start: usize) -> usize
     requires { ⌜ AllSmall (now pixels) × (start + length (packByteOffset (now pixels)) ≤ length (now out)) ⌝ }
     ensures { λ r. ⌜ r ≡ start + length (packByteOffset (now (pixels .entry))) ⌝ }
     ensures { λ _. ⌜ now (out .exit) ≡ sets (now (out .entry)) start (packByteOffset (now (pixels .entry))) ⌝ }
 {
+    let table: [u64; 9] = [0, 8, 24, 0, 128, 8388736, 1, 3, 7];
     let mut last: i64 = 0;
     let mut at = start;
+    let mut used: usize = 0;
     let mut k: usize = 0;
     while k < pixels.len() {
         let mut n = window::window_run(pixels, k, last);
         if n == 0 {
             n = window::part(pixels.len() - k);
-            at = write_few(pixels, k, n, last, out, at);
+            let next = write_part(pixels, k, n, last, out, at, used, &table);
+            used = next - at;
+            at = next;
         } else {
             write_run(pixels, k, n, last, out, at);
             at += n;

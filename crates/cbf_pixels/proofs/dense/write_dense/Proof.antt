@@ -37,10 +37,10 @@ sub-put-over c = gap-fits (c .before .before .before .loop .before) (room c)
 
 put-over-requires : tie.Need-put-over-requires Inv-loop μ-loop
 put-over-requires c κs = (
-      c .before .before .before .before .before .pre .0,
-      along-room (writable-word (c .before .before .before .before .before .pre .1)) (c .before .before .before .loop .inv .0) 8 _ refl (omega arith),
-      gap-room (c .before .before .before .loop .before) (room c),
-    )
+  c .before .before .before .before .before .pre .0,
+  along-room (writable-word (c .before .before .before .before .before .pre .1)) (c .before .before .before .loop .inv .0) 8 _ refl (omega arith),
+  gap-room (c .before .before .before .loop .before) (room c),
+)
 
 add-j : tie.Need-add-j Inv-loop μ-loop
 add-j c = omega arith

@@ -14,8 +14,8 @@ use Rattle.cbf_pixels.proofs.Ranges.{over-no, over-yes}
 use Rattle.cbf_pixels.proofs.measure.beyond.Statement.{statement}
 use Rattle.cbf_pixels.proofs.measure.beyond.Tie as tie
 
-cast-h : tie.Need-cast-h
-cast-h c = search needs
+cast-side : tie.Need-cast-side
+cast-side c = search needs
 
 half-is : (c : tie.Start) → toZ w32 (c .args .half) ≡ pos (c .args .half)
 half-is c = toZ-pos w32 (omega (arith, c .fits .half))
@@ -42,4 +42,4 @@ returns-3 : tie.Need-returns-3
 returns-3 c = sym (over-yes (c .before .before .args .d) (c .before .before .args .half) (inside (c .before) false (c .if2 .left)))
 
 pub beyond-spec : {M : Type 1} → statement M
-beyond-spec = tie.close (tie.spec cast-h sub-if1 returns returns-2 returns-3)
+beyond-spec = tie.close (tie.spec cast-side sub-if1 returns returns-2 returns-3)
