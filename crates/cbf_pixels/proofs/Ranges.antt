@@ -1,6 +1,6 @@
 -- Ranges from 0, or from -1 - limit, to limit: what the or of pixels says of them, that a type's range is one, and the octets of pixels near 0.
 -- Assumes nothing.
-use Prim.Native.Nat.{ℕ, zero, suc, _+_, _*_, _-_, _^_, _<_, _≤_}
+use Prim.Native.Nat.{ℕ, zero, suc, _+_, _*_, _-_, _%_, _^_, _<_, _≤_}
 use native.Mathlib.Omega.{arith}
 use mathlib.Core.Path.{_≡_, refl, sym, ap, ap₂, _∙_, subst}
 use mathlib.Core.Bool.{Bool, true, false}
@@ -25,12 +25,12 @@ use Rattle.cbf_pixels.proofs.Parts.{last-at, pack-add, pack-one}
 use Rattle.cbf_pixels.proofs.Forms.{form1, form2, form4, form-size}
 use Rattle.cbf_pixels.proofs.Sizes.{size-is}
 
-pub within-signed : (z : ℤ) (limit : ℕ) → mag z ≤ limit → within (negsuc limit) (pos limit) z ≡ true
-unfolding within pick
-within-signed (pos n) limit h = le-leb n limit h
-within-signed (negsuc n) limit h = rw (le-leb n limit h)
+pub within-signed : (z : ℤ) (limit : ℕ) → limit < 2 ^ 62 → ((bits 8 z + (limit + 1)) % 2 ^ 64 ≤ limit + (limit + 1)) × (mag z < 2 ^ 63) → within (negsuc limit) (pos limit) z ≡ true
+unfolding within pick bits
+within-signed (pos n) limit l h = let g : n ≤ limit = omega arith in le-leb n limit g
+within-signed (negsuc n) limit l h = let g : n ≤ limit = omega arith in rw (le-leb n limit g)
 
-pub within-unsigned : (z : ℤ) (limit : ℕ) → limit < 2 ^ 63 → (bits 8 z ≤ limit) × (mag z < 2 ^ 63) → within (pos 0) (pos limit) z ≡ true
+pub within-unsigned : (z : ℤ) (limit : ℕ) → limit < 2 ^ 62 → (bits 8 z ≤ limit) × (mag z < 2 ^ 63) → within (pos 0) (pos limit) z ≡ true
 unfolding within pick bits
 within-unsigned (pos n) limit l h = rw (le-leb 0 n (omega arith)) (le-leb n limit (h .0))
 within-unsigned (negsuc n) limit l h = let y : ⊥ = omega arith in absurd y

@@ -40,7 +40,7 @@ fn greatest_of(kind: ElementType) -> i64
 }
 
 fn top_of(kind: ElementType) -> u64
-    ensures { λ r. ⌜ (pos r ≡ greatest kind) × (r < 2 ^ 63) ⌝ }
+    ensures { λ r. ⌜ (pos r ≡ greatest kind) × (r < 2 ^ 62) ⌝ }
 {
     match kind {
         ElementType::U8 => 255,

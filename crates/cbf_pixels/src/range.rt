@@ -2,22 +2,12 @@
 // bitwise or of them.
 ghost use mathlib.Core.Path.{_≡_};
 ghost use mathlib.Core.Bool.{true};
-ghost use Prim.Native.Nat.{ℕ, _+_, _<_, _≤_, _^_};
+ghost use Prim.Native.Nat.{ℕ, _+_, _%_, _<_, _≤_, _^_};
 ghost use lib.ListN.{length, getD};
 ghost use lib.IntN.{pos};
 ghost use lib.Signed.{mag};
 ghost use Rattle.cbf_pixels.specs.Octets.{bits};
 ghost use Rattle.cbf_pixels.specs.Steps.{lowest, EachWithin};
-
-// n of n and of -1 - n.
-fn magnitude(z: i64) -> u64
-    ensures { λ r. ⌜ r ≡ mag z ⌝ }
-{
-    if z < 0 {
-        return (-1 - z) as u64;
-    }
-    z as u64
-}
 
 // The number in eight octets.
 pub fn bits_of_far(d: i64) -> u64
@@ -29,22 +19,30 @@ pub fn bits_of_far(d: i64) -> u64
     d as u64
 }
 
-// At least the magnitude of each of the n pixels from k on.
-fn spread(pixels: &[i64], k: usize, n: usize) -> u64
+// The number in eight octets, raised by below: a number from -below on is not negative then.
+fn place(z: i64, below: u64) -> u64
+    ensures { λ r. ⌜ r ≡ (bits 8 z + below) % 2 ^ 64 ⌝ }
+{
+    let n = bits_of_far(z);
+    std::num::wrapping_add_u64(n, below)
+}
+
+// At least the place of each of the n pixels from k on.
+fn spread(pixels: &[i64], k: usize, n: usize, below: u64) -> u64
     requires { ⌜ k + n ≤ length (now pixels) ⌝ }
-    ensures { λ r. ⌜ ((j : ℕ) → j < n → mag (getD (now (pixels .entry)) (k + j) (pos 0)) ≤ r) ⌝ }
+    ensures { λ r. ⌜ ((j : ℕ) → j < n → ((bits 8 (getD (now (pixels .entry)) (k + j) (pos 0)) + below) % 2 ^ 64 ≤ r) × (mag (getD (now (pixels .entry)) (k + j) (pos 0)) < 2 ^ 63)) ⌝ }
 {
     let mut all: u64 = 0;
     let mut j: usize = 0;
     while j < n {
         let z = pixels[k + j];
-        all = all | magnitude(z);
+        all = all | place(z, below);
         j += 1;
     }
     all
 }
 
-// The same for pixels that are not to be negative: a negative one counts as more than 2^63.
+// The same for pixels that are not to be negative: below is 0.
 fn spread_up(pixels: &[i64], k: usize, n: usize) -> u64
     requires { ⌜ k + n ≤ length (now pixels) ⌝ }
     ensures { λ r. ⌜ ((j : ℕ) → j < n → (bits 8 (getD (now (pixels .entry)) (k + j) (pos 0)) ≤ r) × (mag (getD (now (pixels .entry)) (k + j) (pos 0)) < 2 ^ 63)) ⌝ }
@@ -61,11 +59,12 @@ fn spread_up(pixels: &[i64], k: usize, n: usize) -> u64
 
 // Whether each of the n pixels from k on is at most limit, and from 0 or from -1 - limit on: true only where it is so.
 pub fn each_within(pixels: &[i64], k: usize, n: usize, signed: bool, limit: u64) -> bool
-    requires { ⌜ (k + n ≤ length (now pixels)) × (limit < 2 ^ 63) ⌝ }
+    requires { ⌜ (k + n ≤ length (now pixels)) × (limit < 2 ^ 62) ⌝ }
     ensures { λ r. ⌜ (r ≡ true → EachWithin (now (pixels .entry)) k n (lowest signed limit) (pos limit)) ⌝ }
 {
     if signed {
-        return spread(pixels, k, n) <= limit;
+        let below = limit + 1;
+        return spread(pixels, k, n, below) <= limit + below;
     }
     spread_up(pixels, k, n) <= limit
 }
