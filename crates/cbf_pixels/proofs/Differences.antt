@@ -71,7 +71,7 @@ module _ (h n : ℕ) (H : Halved h n) where
       let a : 1 * 2 ^ H .exponent + (n - h) ≡ n = omega arith in
       ap₂ bitXor (sym a) p ∙ flip (H .exponent) 1 (n - h) (omega arith) ∙ omega arith
 
-  extend : (k : ℕ) → h ≡ half k → subℕ (bitXor n h) h ≡ signed k n
+  pub extend : (k : ℕ) → h ≡ half k → subℕ (bitXor n h) h ≡ signed k n
   extend k e = go (ltb n h) refl
     where
       go : (t : Bool) → ltb n h ≡ t → subℕ (bitXor n h) h ≡ signed k n

@@ -20,7 +20,7 @@ use Rattle.cbf_pixels.specs.declared.Part.{Part}
 use Rattle.cbf_pixels.specs.Octets.{pick, half, signed}
 use Rattle.cbf_pixels.specs.Pixels.{run-out, readBy, widths, within, least, greatest, unpackByteOffset}
 use Rattle.cbf_pixels.specs.Answers.{isSome}
-use Rattle.cbf_pixels.specs.Steps.{rest, Enough, clamped, Took, biasedLeast, biasedZero, biasedGreatest, pixelAt, Top, Between, Passes, Fails, Passed, Summed, Adds, Summable, Behind, Stopped, ValidPart}
+use Rattle.cbf_pixels.specs.Steps.{rest, Enough, clamped, Took, biasedLeast, biasedZero, biasedGreatest, pixelAt, Top, Between, Passes, Fails, Glides, Passed, Summed, Adds, Summable, Behind, Stopped, ValidPart}
 use Rattle.cbf_pixels.proofs.Bitwise.{or-left, or-right}
 use Rattle.cbf_pixels.proofs.Integers.{never, within-small, subℕ-pos, subℕ-neg, held}
 use Rattle.cbf_pixels.proofs.Numbers.{mag-le}
@@ -445,6 +445,34 @@ adds-plain os n b₀ a₀ i biased all biased′ d A s h p v e =
     subst (λ (k : ℕ). Adds os (n + 1) b₀ a₀ i biased′ (bitOr all biased′) k) x
     (adds-adds os n 1 b₀ a₀ i biased all (i + n) biased′ (bitOr all biased′) (i + n + 1) A
     (adds-one os biased all (i + n) biased′ (i + n + 1) (signed 1 (getD os (i + n) 0)) s T (e ∙ ap (λ (z : ℤ). pos biased +ℤ z) v)))
+
+-- ---- plain octets summed up far from the type's ends
+
+pub glides-none : (os : List ℕ) (i : ℕ) → Glides os i 0 0
+glides-none os i =
+    record {
+      most = omega arith;
+      leads = λ top biased l h.
+          let b : biased ≡ biased + 0 - 128 * 0 = omega arith in
+          let e : i ≡ i + 0 = omega arith in
+          subst (λ (k : ℕ). Passes top os biased i 0 (biased + 0 - 128 * 0) k) e (subst (λ (k : ℕ). Passes top os biased i 0 k i) b (passes-none top os biased i));
+    }
+
+pub glides-more : (os : List ℕ) (i n total r : ℕ) → Glides os i n total → i + n < length os → (getD os (i + n) 0 ≡ 128 → ⊥) → r < 256 → signed 1 (getD os (i + n) 0) ≡ subℕ r 128
+    → Glides os i (n + 1) (total + r)
+glides-more os i n total r G h p small v = record { most = let m = G .most in omega arith; leads = leads }
+  where
+    leads : (top biased : ℕ) → biasedLeast + 128 * (n + 1) ≤ biased → biased + 128 * (n + 1) ≤ top → Passes top os biased i (n + 1) (biased + (total + r) - 128 * (n + 1)) (i + (n + 1))
+    leads top biased l u =
+        let m = G .most in
+        let b = biased + total - 128 * n in
+        let b′ = biased + (total + r) - 128 * (n + 1) in
+        let q : r + b - 128 ≡ b′ = omega arith in
+        let e : pos b′ ≡ pos b +ℤ signed 1 (getD os (i + n) 0)
+        = sym (ap (λ (z : ℤ). pos b +ℤ z) v ∙ +ℤ-comm (pos b) (subℕ r 128) ∙ sub-sum r 128 (r + b) (pos b) refl ∙ subℕ-pos (r + b) 128 (omega arith) ∙ ap pos q) in
+        let x : i + n + 1 ≡ i + (n + 1) = omega arith in
+        subst (λ (k : ℕ). Passes top os biased i (n + 1) b′ k) x
+        (passes-passes top os biased i n 1 b (i + n) b′ (i + n + 1) (G .leads top biased (omega arith) (omega arith)) (step-in (plain-took os (i + n) h p) (omega arith, omega arith) e (omega arith, omega arith)))
 
 -- ---- parts
 

@@ -50,10 +50,10 @@ plain-part os i k n m p h j l e =
 
 pub run-none : (os : List ℕ) (i limit : ℕ) → i ≤ length os → PlainRun os i limit 0
 run-none os i limit h =
-    record { plain = λ j l. let y : ⊥ = omega arith in absurd y; few = omega arith; inside = omega arith; blocks = refl }
+    record { plain = λ j l. let y : ⊥ = omega arith in absurd y; few = omega arith; short = omega arith; inside = omega arith; blocks = refl }
 
-pub run-more : (os : List ℕ) (i limit n : ℕ) → PlainRun os i limit n → 32 ≤ limit - n → i + n + 32 ≤ length os → Plain os (i + n) 32 → PlainRun os i limit (n + 32)
-run-more os i limit n R f h q =
+pub run-more : (os : List ℕ) (i limit n : ℕ) → limit ≤ 4096 → PlainRun os i limit n → 32 ≤ limit - n → i + n + 32 ≤ length os → Plain os (i + n) 32 → PlainRun os i limit (n + 32)
+run-more os i limit n s R f h q =
     let b = R .blocks in
     let l = R .few in
-    record { plain = plain-more os i n 32 (R .plain) q; few = omega arith; inside = omega arith; blocks = omega arith }
+    record { plain = plain-more os i n 32 (R .plain) q; few = omega arith; short = omega arith; inside = omega arith; blocks = omega arith }

@@ -58,6 +58,7 @@ Plain os i n = (j : ℕ) → j < n → getD os (i + j) 0 ≡ 128 → ⊥
 pub record PlainRun (os : List ℕ) (i limit n : ℕ) : Type 0 where
   pub plain : Plain os i n
   pub few : n ≤ limit
+  pub short : n ≤ 4096
   pub inside : i + n ≤ length os
   pub blocks : n % 32 ≡ 0
 
@@ -116,6 +117,12 @@ Passes top os biased i n biased′ j =
 -- the n pixels from the octet i on do not unpack, with tail behind the octets
 unfoldable pub Fails : ℕ → List ℕ → List ℕ → ℕ → ℕ → ℕ → Type 0
 Fails top os tail biased i n = (t : ElementType) → biasedGreatest t ≡ top → (m : ℕ) → isSome (rest t os tail (pixelAt t biased) i (n + m)) ≡ false
+
+-- n plain octets from i on, whose differences plus 128 each add up to total, keep a pixel in its type that is 128 n away
+-- from the type's ends
+pub record Glides (os : List ℕ) (i n total : ℕ) : Type 0 where
+  pub most : total ≤ 255 * n
+  pub leads : (top biased : ℕ) → biasedLeast + 128 * n ≤ biased → biased + 128 * n ≤ top → Passes top os biased i n (biased + total - 128 * n) (i + n)
 
 -- what a step of the first pass answers: 0 for pixels that do not unpack, else where the n pixels lead. Octets for 32 pixels
 -- of 15 are there, or nothing is behind the octets.

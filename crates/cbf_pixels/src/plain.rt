@@ -24,8 +24,8 @@ fn escapes(octets: &[u8], i: usize) -> bool
 
 // How many plain octets start at i, in blocks of 32, at most limit. The first octet is tested by itself, which spares the
 // test of a block where most pixels have an escape.
-pub fn plain_run(octets: &[u8], i: usize, limit: usize) -> usize
-    requires { ⌜ i ≤ length (now octets) ⌝ }
+fn plain_blocks(octets: &[u8], i: usize, limit: usize) -> usize
+    requires { ⌜ (i ≤ length (now octets)) × (limit ≤ 4096) ⌝ }
     ensures { λ r. ⌜ PlainRun (now (octets .entry)) i limit r ⌝ }
 {
     let left = octets.len() - i;
@@ -46,6 +46,21 @@ pub fn plain_run(octets: &[u8], i: usize, limit: usize) -> usize
         n += 32;
     }
     n
+}
+
+fn short(n: usize) -> usize
+    ensures { λ r. ⌜ (r ≤ n) × (r ≤ 4096) ⌝ }
+{
+    if n < 4096 { n } else { 4096 }
+}
+
+// The same, at most 4,096: so many differences of one octet stay far from the ends of a type of 32 bits, and the octets are
+// near when they are read again.
+pub fn plain_run(octets: &[u8], i: usize, limit: usize) -> usize
+    requires { ⌜ i ≤ length (now octets) ⌝ }
+    ensures { λ r. ⌜ PlainRun (now (octets .entry)) i limit r ⌝ }
+{
+    plain_blocks(octets, i, short(limit))
 }
 
 // How many pixels the next part has, where n are left.

@@ -9,10 +9,11 @@ ghost use mathlib.Core.Path.{_≡_};
 ghost use mathlib.Core.Bool.{true};
 ghost use Prim.Native.Nat.{_+_, _%_, _<_, _≤_, _^_};
 ghost use lib.ListN.{length};
-ghost use lib.IntN.{pos, natAbs, _+ℤ_};
+ghost use lib.IntN.{pos, subℕ, natAbs, _+ℤ_};
+ghost use Rattle.cbf_pixels.specs.Octets.{signed};
 ghost use Rattle.cbf_pixels.specs.Pixels.{within, least, greatest, unpackByteOffset};
 ghost use Rattle.cbf_pixels.specs.Answers.{isSome};
-ghost use Rattle.cbf_pixels.specs.Steps.{Whole, Plain, biasedLeast, biasedZero, biasedGreatest, pixelAt, Top, Between, Passed, Adds, Summable, ValidPart};
+ghost use Rattle.cbf_pixels.specs.Steps.{Whole, Plain, Glides, biasedLeast, biasedZero, biasedGreatest, pixelAt, Top, Between, Passed, Adds, Summable, ValidPart};
 
 const BIASED_LEAST: u64 = 1099511627776;
 
@@ -80,6 +81,28 @@ fn add_block(octets: &[u8], s: Sums) -> Sums
     }
 }
 
+// A plain octet's difference plus 128.
+fn raised(o: u8) -> u32
+    ensures { λ r. ⌜ (r < 256) × (signed 1 o ≡ subℕ r 128) ⌝ }
+{
+    (o ^ 128) as u32
+}
+
+// The differences of n plain octets from i on, summed up, each plus 128. No pixel is looked at: none leaves the type where
+// its ends are far.
+fn sum_run(octets: &[u8], i: usize, n: usize) -> u32
+    requires { ⌜ (i + n ≤ length (now octets)) × Plain (now octets) i n × (n ≤ 4096) ⌝ }
+    ensures { λ r. ⌜ Glides (now (octets .entry)) i n r ⌝ }
+{
+    let mut total: u32 = 0;
+    let mut j: usize = 0;
+    while j < n {
+        total += raised(octets[i + j]);
+        j += 1;
+    }
+    total
+}
+
 // The biased pixel after n plain octets from i on, or 0 where one of the pixels is outside its type.
 fn pass_run(octets: &[u8], i: usize, n: usize, biased: u64, top: u64) -> u64
     requires { ⌜ Top top × Between top biased × (i + n ≤ length (now octets)) × Plain (now octets) i n × (n % 32 ≡ 0) ⌝ }
@@ -99,6 +122,21 @@ fn pass_run(octets: &[u8], i: usize, n: usize, biased: u64, top: u64) -> u64
         j += 32;
     }
     s.biased
+}
+
+// The same, where the run is at most 4,096 octets long.
+fn pass_plain(octets: &[u8], i: usize, n: usize, biased: u64, top: u64) -> u64
+    requires { ⌜ Top top × Between top biased × (i + n ≤ length (now octets)) × Plain (now octets) i n × (n % 32 ≡ 0) × (n ≤ 4096) ⌝ }
+    ensures { λ r. ⌜ Passed top (now (octets .entry)) biased i n r (i + n) ⌝ }
+{
+    if biased < BIASED_LEAST + 524288 {
+        return pass_run(octets, i, n, biased, top);
+    }
+    if top < biased + 524288 {
+        return pass_run(octets, i, n, biased, top);
+    }
+    let total = sum_run(octets, i, n) as u64;
+    biased + total - 128 * n as u64
 }
 
 fn add_one(octets: &[u8], s: Sums) -> Sums
@@ -249,7 +287,7 @@ pub fn validate_part(kind: ElementType, octets: &[u8], ended: bool, s: Last, cou
             n = plain::part(count - k);
             at = pass_few(octets, i, at.biased, top, n);
         } else {
-            let biased = pass_run(octets, i, n, at.biased, top);
+            let biased = pass_plain(octets, i, n, at.biased, top);
             at = State {
                 biased: biased,
                 next: i + n,

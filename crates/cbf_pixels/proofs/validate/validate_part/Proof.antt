@@ -80,13 +80,13 @@ pass-few-requires c κs =
     let I = c .before .before .before .before .before .before .loop .inv in
     (top-at (a .kind) (top .ensures), I .2, I .1, c .part .ensures .1)
 
-pass-run-requires : tie.Need-pass-run-requires Inv-loop μ-loop
-pass-run-requires c κs =
+pass-plain-requires : tie.Need-pass-plain-requires Inv-loop μ-loop
+pass-plain-requires c κs =
     let a = c .before .before .before .before .before .before .before .before .before .before .args in
     let top = c .before .before .before .before .before .before .before .before .biased-greatest in
     let I = c .before .before .before .before .before .loop .inv in
     let R = c .before .plain-run .ensures in
-    (top-at (a .kind) (top .ensures), I .2, R .inside, R .plain, R .blocks)
+    (top-at (a .kind) (top .ensures), I .2, R .inside, R .plain, R .blocks, R .short)
 
 add-t18 : tie.Need-add-t18 Inv-loop μ-loop
 add-t18 c = let h = c .before .before .plain-run .ensures .inside in omega arith
@@ -176,7 +176,7 @@ validate-part-spec =
     sub-part
     part-requires
     pass-few-requires
-    pass-run-requires
+    pass-plain-requires
     add-t18
     returns-2
     add-k

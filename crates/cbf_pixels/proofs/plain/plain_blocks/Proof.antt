@@ -1,11 +1,11 @@
--- `plain_run` meets its contract. The loop has passed n plain octets. Assumes nothing.
+-- `plain_blocks` meets its contract. The loop has passed n plain octets. Assumes nothing.
 use borrow.Author.Needs.{needs}
 use native.Mathlib.Omega.{arith}
 use Prim.Native.Nat.{_-_}
 use Rattle.cbf_pixels.specs.Steps.{PlainRun}
 use Rattle.cbf_pixels.proofs.PlainOctets.{run-none, run-more}
-use Rattle.cbf_pixels.proofs.plain.plain_run.Statement.{statement}
-use Rattle.cbf_pixels.proofs.plain.plain_run.Tie as tie
+use Rattle.cbf_pixels.proofs.plain.plain_blocks.Statement.{statement}
+use Rattle.cbf_pixels.proofs.plain.plain_blocks.Tie as tie
 
 abbrev Inv-loop : tie.InvT-loop
 Inv-loop octets i limit left n₀ n = PlainRun octets i limit n
@@ -17,16 +17,16 @@ sub-left : tie.Need-sub-left Inv-loop μ-loop
 sub-left c = search needs
 
 returns : tie.Need-returns Inv-loop μ-loop
-returns c = run-none (c .before .before .args .octets .now) (c .before .before .args .i) (c .before .before .args .limit) (c .before .before .pre)
+returns c = run-none (c .before .before .args .octets .now) (c .before .before .args .i) (c .before .before .args .limit) (c .before .before .pre .0)
 
 shared-slice-read-if2 : tie.Need-shared-slice-read-if2 Inv-loop μ-loop
 shared-slice-read-if2 c = omega arith
 
 returns-2 : tie.Need-returns-2 Inv-loop μ-loop
-returns-2 c = run-none (c .before .before .before .before .args .octets .now) (c .before .before .before .before .args .i) (c .before .before .before .before .args .limit) (c .before .before .before .before .pre)
+returns-2 c = run-none (c .before .before .before .before .args .octets .now) (c .before .before .before .before .args .i) (c .before .before .before .before .args .limit) (c .before .before .before .before .pre .0)
 
 loop-holds : tie.Need-loop-holds Inv-loop μ-loop
-loop-holds c = run-none (c .before .before .before .before .args .octets .now) (c .before .before .before .before .args .i) (c .before .before .before .before .args .limit) (c .before .before .before .before .pre)
+loop-holds c = run-none (c .before .before .before .before .args .octets .now) (c .before .before .before .before .args .i) (c .before .before .before .before .args .limit) (c .before .before .before .before .pre .0)
 
 sub-loop : tie.Need-sub-loop Inv-loop μ-loop
 sub-loop c = c .loop .inv .few
@@ -57,13 +57,13 @@ loop-again c =
     let a = c .before .before .before .before .before .before .before .before .before .args in
     let l = c .before .before .before .before .loop in
     let h = l .inv .inside in
-    run-more (a .octets .now) (a .i) (a .limit) (l .n) (l .inv) (omega arith) (omega arith) (c .before .escapes .ensures (c .if4 .left))
+    run-more (a .octets .now) (a .i) (a .limit) (l .n) (c .before .before .before .before .before .before .before .before .before .pre .1) (l .inv) (omega arith) (omega arith) (c .before .escapes .ensures (c .if4 .left))
 
 returns-5 : tie.Need-returns-5 Inv-loop μ-loop
 returns-5 c = c .before .loop .inv
 
-pub plain-run-spec : {M : Type 1} → statement M
-plain-run-spec =
+pub plain-blocks-spec : {M : Type 1} → statement M
+plain-blocks-spec =
     tie.close
     (tie.spec
     Inv-loop
