@@ -12,6 +12,7 @@ pub mod Table
 pub mod Rest
 pub mod Bounds
 pub mod Passing
+pub mod Modulo
 pub mod Filling
 pub mod Parts
 pub mod Forms

@@ -104,12 +104,12 @@ zero-between U32 = (omega arith, omega arith)
 zero-between S32 = (omega arith, omega arith)
 
 top-is : (t : ElementType) → Top (biasedGreatest t)
-top-is U8 = record { exponent = 8; parts = 4294967296; whole = refl; size = refl; small = omega arith }
-top-is S8 = record { exponent = 8; parts = 4294967296; whole = refl; size = refl; small = omega arith }
-top-is U16 = record { exponent = 16; parts = 16777216; whole = refl; size = refl; small = omega arith }
-top-is S16 = record { exponent = 16; parts = 16777216; whole = refl; size = refl; small = omega arith }
-top-is U32 = record { exponent = 32; parts = 256; whole = refl; size = refl; small = omega arith }
-top-is S32 = record { exponent = 32; parts = 256; whole = refl; size = refl; small = omega arith }
+top-is U8 = record { exponent = 8; parts = 4294967296; whole = refl; size = refl; small = omega arith; large = omega arith }
+top-is S8 = record { exponent = 8; parts = 4294967296; whole = refl; size = refl; small = omega arith; large = omega arith }
+top-is U16 = record { exponent = 16; parts = 16777216; whole = refl; size = refl; small = omega arith; large = omega arith }
+top-is S16 = record { exponent = 16; parts = 16777216; whole = refl; size = refl; small = omega arith; large = omega arith }
+top-is U32 = record { exponent = 32; parts = 256; whole = refl; size = refl; small = omega arith; large = omega arith }
+top-is S32 = record { exponent = 32; parts = 256; whole = refl; size = refl; small = omega arith; large = omega arith }
 
 pub top-small : (top : ℕ) → Top top → top < biasedLeast + 2 ^ 32
 top-small top T = let s = T .size in let l = T .small in omega arith

@@ -3,6 +3,7 @@ use crate::ElementType;
 use crate::Last;
 use crate::Part;
 use crate::difference;
+use crate::near;
 use crate::octets;
 use crate::plain;
 ghost use mathlib.Core.Path.{_≡_};
@@ -124,11 +125,45 @@ fn pass_run(octets: &[u8], i: usize, n: usize, biased: u64, top: u64) -> u64
     s.biased
 }
 
+fn at_most_1024(n: usize) -> usize
+    ensures { λ r. ⌜ (r ≤ n) × (r ≤ 1024) × (0 < n → 0 < r) × (n % 32 ≡ 0 → r % 32 ≡ 0) ⌝ }
+{
+    if n < 1024 { n } else { 1024 }
+}
+
+// The same, where the pixel before them is less than 128 above the type's least one.
+fn pass_low(octets: &[u8], i: usize, n: usize, biased: u64, top: u64) -> u64
+    requires { ⌜ Top top × Between top biased × (i + n ≤ length (now octets)) × Plain (now octets) i n × (n % 32 ≡ 0) × (3 ≤ i) × (biased < biasedLeast + 128) ⌝ }
+    ensures { λ r. ⌜ Passed top (now (octets .entry)) biased i n r (i + n) ⌝ }
+{
+    let mut above = (biased - BIASED_LEAST) as u8;
+    let mut j: usize = 0;
+    while j < n {
+        let m = at_most_1024(n - j);
+        let next = near::near(octets, i + j, m, above);
+        if 127 < next {
+            return pass_run(octets, i, n, biased, top);
+        }
+        above = next;
+        j += m;
+    }
+    BIASED_LEAST + octets::wide(above)
+}
+
 // The same, where the run is at most 4,096 octets long.
 fn pass_plain(octets: &[u8], i: usize, n: usize, biased: u64, top: u64) -> u64
     requires { ⌜ Top top × Between top biased × (i + n ≤ length (now octets)) × Plain (now octets) i n × (n % 32 ≡ 0) × (n ≤ 4096) ⌝ }
     ensures { λ r. ⌜ Passed top (now (octets .entry)) biased i n r (i + n) ⌝ }
 {
+    if biased < BIASED_LEAST + 128 {
+        if n < 96 {
+            return pass_run(octets, i, n, biased, top);
+        }
+        if i < 3 {
+            return pass_run(octets, i, n, biased, top);
+        }
+        return pass_low(octets, i, n, biased, top);
+    }
     if biased < BIASED_LEAST + 524288 {
         return pass_run(octets, i, n, biased, top);
     }

@@ -15,14 +15,35 @@ pass-run-requires c κs = search needs
 returns : tie.Need-returns
 returns c = search needs
 
-add-if2 : tie.Need-add-if2
-add-if2 c = search needs
-
 pass-run-requires-2 : tie.Need-pass-run-requires-2
 pass-run-requires-2 c κs = search needs
 
 returns-2 : tie.Need-returns-2
 returns-2 c = search needs
+
+pass-low-requires : tie.Need-pass-low-requires
+pass-low-requires c κs = search needs
+
+returns-3 : tie.Need-returns-3
+returns-3 c = search needs
+
+add-if4 : tie.Need-add-if4
+add-if4 c = search needs
+
+pass-run-requires-3 : tie.Need-pass-run-requires-3
+pass-run-requires-3 c κs = search needs
+
+returns-4 : tie.Need-returns-4
+returns-4 c = search needs
+
+add-if5 : tie.Need-add-if5
+add-if5 c = search needs
+
+pass-run-requires-4 : tie.Need-pass-run-requires-4
+pass-run-requires-4 c κs = search needs
+
+returns-5 : tie.Need-returns-5
+returns-5 c = search needs
 
 sum-run-requires : tie.Need-sum-run-requires
 sum-run-requires c κs = search needs
@@ -39,15 +60,15 @@ mul-result c = search needs
 sub-result : tie.Need-sub-result
 sub-result c = search needs
 
-returns-3 : tie.Need-returns-3
-returns-3 c =
-    let a = c .before .before .before .before .args in
-    let p = c .before .before .before .before .pre in
+returns-6 : tie.Need-returns-6
+returns-6 c =
+    let a = c .before .before .before .before .before .args in
+    let p = c .before .before .before .before .before .pre in
     let G = c .sum-run .ensures in
     let t = c .sum-run .result in
     let most = G .most in
-    let low = c .before .before .if1 .left in
-    let high = c .before .if2 .left in
+    let low = c .before .before .if4 .left in
+    let high = c .before .if5 .left in
     passed-to (a .top) (a .octets .now) (a .biased) (a .i) (a .n) (a .biased + t - 128 * a .n) (a .i + a .n) (omega (arith, p .5), omega (arith, p .5))
     (G .leads (a .top) (a .biased) (omega (arith, p .5)) (omega (arith, p .5))) (p .2)
 
@@ -58,12 +79,19 @@ pass-plain-spec =
     add-if1
     pass-run-requires
     returns
-    add-if2
     pass-run-requires-2
     returns-2
+    pass-low-requires
+    returns-3
+    add-if4
+    pass-run-requires-3
+    returns-4
+    add-if5
+    pass-run-requires-4
+    returns-5
     sum-run-requires
     cast-total
     add-result
     mul-result
     sub-result
-    returns-3)
+    returns-6)

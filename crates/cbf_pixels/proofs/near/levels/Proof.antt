@@ -1,0 +1,117 @@
+-- `levels` meets its contract. The loop has written the first j pixels. Assumes nothing.
+use borrow.Author.Needs.{needs}
+use borrow.Author.Count.{below-more}
+use native.Mathlib.Omega.{arith}
+use Prim.Native.Nat.{ℕ, _+_, _-_, _<_, _≤_}
+use mathlib.Core.Path.{_≡_, ap, sym, _∙_, subst}
+use mathlib.Core.List.{List}
+use lib.Bits.{bitOr}
+use lib.ListN.{length, getD, length-set, set}
+use lib.Seq.{getD-set-same, getD-set-other}
+use Rattle.cbf_pixels.specs.Steps.{Windows, Levels}
+use Rattle.cbf_pixels.proofs.Bitwise.{or-left, or-right}
+use Rattle.cbf_pixels.proofs.Modulo.{levels-more, under-more}
+use Rattle.cbf_pixels.proofs.near.levels.Statement.{statement}
+use Rattle.cbf_pixels.proofs.near.levels.Tie as tie
+
+abbrev Inv-loop : tie.InvT-loop
+Inv-loop sums n pixels₀ all₀ j₀ pixels all j =
+    (j ≤ n) × (length pixels ≡ 1040) × ((os : List ℕ) (i c : ℕ) → Windows os i n sums → Levels os i c 0 pixels₀ → Levels os i c j pixels) × ((k : ℕ) → k < j → getD pixels (16 + k) 0 ≤ all)
+
+abbrev μ-loop : tie.MeasureT-loop
+μ-loop sums n pixels₀ all₀ j₀ pixels all j = n - j
+
+loop-holds : tie.Need-loop-holds Inv-loop μ-loop
+loop-holds c = (omega arith, c .pre .1, λ os i b W L. L, λ k h. let y : ⊥ = omega arith in absurd y)
+
+add-add4 : tie.Need-add-add4 Inv-loop μ-loop
+add-add4 c = omega (arith, c .before .before .pre .0)
+
+element-copy-out-add4 : tie.Need-element-copy-out-add4 Inv-loop μ-loop
+element-copy-out-add4 c = omega (arith, c .before .before .pre .0)
+
+add-add4-2 : tie.Need-add-add4-2 Inv-loop μ-loop
+add-add4-2 c = omega (arith, c .before .before .before .pre .0)
+
+element-copy-out-add4-2 : tie.Need-element-copy-out-add4-2 Inv-loop μ-loop
+element-copy-out-add4-2 c = omega (arith, c .before .before .before .pre .0)
+
+add-add4-3 : tie.Need-add-add4-3 Inv-loop μ-loop
+add-add4-3 c = omega (arith, c .before .before .before .before .pre .0)
+
+element-copy-out-add4-3 : tie.Need-element-copy-out-add4-3 Inv-loop μ-loop
+element-copy-out-add4-3 c = omega (arith, c .before .before .before .before .pre .0)
+
+add-add4-4 : tie.Need-add-add4-4 Inv-loop μ-loop
+add-add4-4 c = omega (arith, c .before .before .before .before .before .pre .0)
+
+element-copy-out-add4-4 : tie.Need-element-copy-out-add4-4 Inv-loop μ-loop
+element-copy-out-add4-4 c = omega (arith, c .before .before .before .before .before .pre .0)
+
+add4-requires : tie.Need-add4-requires Inv-loop μ-loop
+add4-requires c κs = search needs
+
+element-copy-out-wrapping-add-u8 : tie.Need-element-copy-out-wrapping-add-u8 Inv-loop μ-loop
+element-copy-out-wrapping-add-u8 c = omega (arith, c .before .before .before .before .before .before .before .pre .0)
+
+wrapping-add-u8-requires : tie.Need-wrapping-add-u8-requires Inv-loop μ-loop
+wrapping-add-u8-requires c κs = search needs
+
+add-pixels : tie.Need-add-pixels Inv-loop μ-loop
+add-pixels c = omega (arith, c .before .before .before .before .before .before .before .before .before .pre .0)
+
+element-write-pixels : tie.Need-element-write-pixels Inv-loop μ-loop
+element-write-pixels c = omega (arith, c .before .before .before .before .before .before .before .before .before .pre .0)
+
+add-j : tie.Need-add-j Inv-loop μ-loop
+add-j c = omega (arith, c .before .before .before .before .before .before .before .before .before .pre .0)
+
+loop-less : tie.Need-loop-less Inv-loop μ-loop
+loop-less c = omega arith
+
+loop-again : tie.Need-loop-again Inv-loop μ-loop
+loop-again c =
+    let p = c .before .before .before .before .before .before .before .before .before .pre in
+    let a = c .before .before .before .before .before .before .before .before .before .args in
+    let l = c .before .before .before .before .before .before .before .before .loop in
+    let t = c .before .before .before .before .before .before .before .loop-test .taken in
+    let x = c .wrapping-add-u8 .result in
+    let more = c .before .before .add4 .result in
+    let here : 16 + l .j < length (l .pixels) = omega (arith, p .0, l .inv .1) in (
+      omega arith,
+      length-set (l .pixels) (16 + l .j) x ∙ l .inv .1,
+      λ os i b W L. levels-more os i b (a .n) (l .j) (a .sums .now) (l .pixels) more x W (l .inv .2 os i b W L) t here (c .before .before .add4 .ensures) (c .wrapping-add-u8 .ensures),
+      under-more (l .pixels) (l .j) (l .all) x here (l .inv .3),
+    )
+
+returns : tie.Need-returns Inv-loop μ-loop
+returns c =
+    let a = c .before .before .args in
+    let l = c .before .loop in
+    let e : l .j ≡ a .n = omega (arith, l .inv .0, c .loop-test .left) in
+    (λ os i b W L. subst (λ (k : ℕ). Levels os i b k (l .pixels)) e (l .inv .2 os i b W L), λ k h. l .inv .3 k (omega arith))
+
+pub levels-spec : {M : Type 1} → statement M
+levels-spec =
+    tie.close
+    (tie.spec
+    Inv-loop
+    μ-loop
+    loop-holds
+    add-add4
+    element-copy-out-add4
+    add-add4-2
+    element-copy-out-add4-2
+    add-add4-3
+    element-copy-out-add4-3
+    add-add4-4
+    element-copy-out-add4-4
+    add4-requires
+    element-copy-out-wrapping-add-u8
+    wrapping-add-u8-requires
+    add-pixels
+    element-write-pixels
+    add-j
+    loop-less
+    loop-again
+    returns)
