@@ -8,13 +8,13 @@ use crate::octets;
 use crate::plain;
 ghost use mathlib.Core.Path.{_≡_};
 ghost use mathlib.Core.Bool.{true};
-ghost use Prim.Native.Nat.{_+_, _%_, _<_, _≤_, _^_};
+ghost use Prim.Native.Nat.{ℕ, _+_, _%_, _<_, _≤_, _^_};
 ghost use lib.ListN.{length};
 ghost use lib.IntN.{pos, subℕ, natAbs, _+ℤ_};
 ghost use Rattle.cbf_pixels.specs.Octets.{signed};
 ghost use Rattle.cbf_pixels.specs.Pixels.{within, least, greatest, unpackByteOffset};
 ghost use Rattle.cbf_pixels.specs.Answers.{isSome};
-ghost use Rattle.cbf_pixels.specs.Steps.{Whole, Plain, Glides, biasedLeast, biasedZero, biasedGreatest, pixelAt, Top, Between, Passed, Adds, Summable, ValidPart};
+ghost use Rattle.cbf_pixels.specs.Steps.{Whole, Plain, Glides, biasedLeast, biasedZero, biasedGreatest, pixelAt, Top, Between, Passes, Passed, Adds, Summable, ValidPart};
 
 const BIASED_LEAST: u64 = 1099511627776;
 
@@ -131,10 +131,10 @@ fn at_most_1024(n: usize) -> usize
     if n < 1024 { n } else { 1024 }
 }
 
-// The same, where the pixel before them is less than 128 above the type's least one.
-fn pass_low(octets: &[u8], i: usize, n: usize, biased: u64, top: u64) -> u64
-    requires { ⌜ Top top × Between top biased × (i + n ≤ length (now octets)) × Plain (now octets) i n × (n % 32 ≡ 0) × (3 ≤ i) × (biased < biasedLeast + 128) ⌝ }
-    ensures { λ r. ⌜ Passed top (now (octets .entry)) biased i n r (i + n) ⌝ }
+// The same, where the pixel before them is less than 128 above the type's least one; 0 where it is not known.
+fn pass_low(octets: &[u8], i: usize, n: usize, biased: u64) -> u64
+    requires { ⌜ (biasedLeast ≤ biased) × (i + n ≤ length (now octets)) × Plain (now octets) i n × (n % 32 ≡ 0) × (3 ≤ i) × (biased < biasedLeast + 128) ⌝ }
+    ensures { λ r. ⌜ ((r ≡ 0 → ⊥) → (top : ℕ) → Top top → Between top r × Passes top (now (octets .entry)) biased i n r (i + n)) ⌝ }
 {
     let mut above = (biased - BIASED_LEAST) as u8;
     let mut j: usize = 0;
@@ -142,7 +142,7 @@ fn pass_low(octets: &[u8], i: usize, n: usize, biased: u64, top: u64) -> u64
         let m = at_most_1024(n - j);
         let next = near::near(octets, i + j, m, above);
         if 127 < next {
-            return pass_run(octets, i, n, biased, top);
+            return 0;
         }
         above = next;
         j += m;
@@ -150,28 +150,46 @@ fn pass_low(octets: &[u8], i: usize, n: usize, biased: u64, top: u64) -> u64
     BIASED_LEAST + octets::wide(above)
 }
 
+// Whether a run is long enough for pass_low, and starts where pass_low can.
+fn is_low(i: usize, n: usize, biased: u64) -> bool
+    ensures { λ r. ⌜ (r ≡ true → (3 ≤ i) × (biased < biasedLeast + 128)) ⌝ }
+{
+    if n < 96 {
+        return false;
+    }
+    if i < 3 {
+        return false;
+    }
+    biased < BIASED_LEAST + 128
+}
+
+// Whether 4,096 pixels of plain octets cannot leave the type.
+fn is_far(biased: u64, top: u64) -> bool
+    requires { ⌜ biased ≤ 2 ^ 42 ⌝ }
+    ensures { λ r. ⌜ (r ≡ true → (biasedLeast + 524288 ≤ biased) × (biased + 524288 ≤ top)) ⌝ }
+{
+    if biased < BIASED_LEAST + 524288 {
+        return false;
+    }
+    biased + 524288 <= top
+}
+
 // The same, where the run is at most 4,096 octets long.
 fn pass_plain(octets: &[u8], i: usize, n: usize, biased: u64, top: u64) -> u64
     requires { ⌜ Top top × Between top biased × (i + n ≤ length (now octets)) × Plain (now octets) i n × (n % 32 ≡ 0) × (n ≤ 4096) ⌝ }
     ensures { λ r. ⌜ Passed top (now (octets .entry)) biased i n r (i + n) ⌝ }
 {
-    if biased < BIASED_LEAST + 128 {
-        if n < 96 {
-            return pass_run(octets, i, n, biased, top);
+    if is_far(biased, top) {
+        let total = sum_run(octets, i, n) as u64;
+        return biased + total - 128 * n as u64;
+    }
+    if is_low(i, n, biased) {
+        let low = pass_low(octets, i, n, biased);
+        if low != 0 {
+            return low;
         }
-        if i < 3 {
-            return pass_run(octets, i, n, biased, top);
-        }
-        return pass_low(octets, i, n, biased, top);
     }
-    if biased < BIASED_LEAST + 524288 {
-        return pass_run(octets, i, n, biased, top);
-    }
-    if top < biased + 524288 {
-        return pass_run(octets, i, n, biased, top);
-    }
-    let total = sum_run(octets, i, n) as u64;
-    biased + total - 128 * n as u64
+    pass_run(octets, i, n, biased, top)
 }
 
 fn add_one(octets: &[u8], s: Sums) -> Sums

@@ -6,44 +6,8 @@ use borrow.Author.Needs.{needs}
 use Rattle.cbf_pixels.proofs.validate.pass_plain.Statement.{statement}
 use Rattle.cbf_pixels.proofs.validate.pass_plain.Tie as tie
 
-add-if1 : tie.Need-add-if1
-add-if1 c = search needs
-
-pass-run-requires : tie.Need-pass-run-requires
-pass-run-requires c κs = search needs
-
-returns : tie.Need-returns
-returns c = search needs
-
-pass-run-requires-2 : tie.Need-pass-run-requires-2
-pass-run-requires-2 c κs = search needs
-
-returns-2 : tie.Need-returns-2
-returns-2 c = search needs
-
-pass-low-requires : tie.Need-pass-low-requires
-pass-low-requires c κs = search needs
-
-returns-3 : tie.Need-returns-3
-returns-3 c = search needs
-
-add-if4 : tie.Need-add-if4
-add-if4 c = search needs
-
-pass-run-requires-3 : tie.Need-pass-run-requires-3
-pass-run-requires-3 c κs = search needs
-
-returns-4 : tie.Need-returns-4
-returns-4 c = search needs
-
-add-if5 : tie.Need-add-if5
-add-if5 c = search needs
-
-pass-run-requires-4 : tie.Need-pass-run-requires-4
-pass-run-requires-4 c κs = search needs
-
-returns-5 : tie.Need-returns-5
-returns-5 c = search needs
+is-far-requires : tie.Need-is-far-requires
+is-far-requires c κs = search needs
 
 sum-run-requires : tie.Need-sum-run-requires
 sum-run-requires c κs = search needs
@@ -60,38 +24,52 @@ mul-result c = search needs
 sub-result : tie.Need-sub-result
 sub-result c = search needs
 
-returns-6 : tie.Need-returns-6
-returns-6 c =
-    let a = c .before .before .before .before .before .args in
-    let p = c .before .before .before .before .before .pre in
+returns : tie.Need-returns
+returns c =
+    let a = c .before .before .before .before .args in
+    let p = c .before .before .before .before .pre in
     let G = c .sum-run .ensures in
     let t = c .sum-run .result in
     let most = G .most in
-    let low = c .before .before .if4 .left in
-    let high = c .before .if5 .left in
-    passed-to (a .top) (a .octets .now) (a .biased) (a .i) (a .n) (a .biased + t - 128 * a .n) (a .i + a .n) (omega (arith, p .5), omega (arith, p .5))
-    (G .leads (a .top) (a .biased) (omega (arith, p .5)) (omega (arith, p .5))) (p .2)
+    let F = c .before .before .is-far .ensures (c .before .if1 .taken) in
+    passed-to (a .top) (a .octets .now) (a .biased) (a .i) (a .n) (a .biased + t - 128 * a .n) (a .i + a .n) (omega (arith, p .5, F .0), omega (arith, p .5, F .1))
+    (G .leads (a .top) (a .biased) (omega (arith, p .5, F .0)) (omega (arith, p .5, F .1))) (p .2)
+
+is-low-requires : tie.Need-is-low-requires
+is-low-requires c κs = search needs
+
+pass-low-requires : tie.Need-pass-low-requires
+pass-low-requires c κs =
+    let p = c .before .before .before .before .before .pre in
+    let L = c .before .is-low .ensures (c .if2 .taken) in
+    (p .1 .0, p .2, p .3, p .4, L .0, L .1)
+
+returns-2 : tie.Need-returns-2
+returns-2 c =
+    let a = c .before .before .before .before .before .before .before .args in
+    let p = c .before .before .before .before .before .before .before .pre in
+    let P = c .before .pass-low .ensures (c .if3 .taken) (a .top) (p .0) in
+    passed-to (a .top) (a .octets .now) (a .biased) (a .i) (a .n) (c .before .pass-low .result) (a .i + a .n) (P .0) (P .1) (p .2)
+
+pass-run-requires : tie.Need-pass-run-requires
+pass-run-requires c κs = search needs
+
+returns-3 : tie.Need-returns-3
+returns-3 c = search needs
 
 pub pass-plain-spec : {M : Type 1} → statement M
 pass-plain-spec =
     tie.close
     (tie.spec
-    add-if1
-    pass-run-requires
-    returns
-    pass-run-requires-2
-    returns-2
-    pass-low-requires
-    returns-3
-    add-if4
-    pass-run-requires-3
-    returns-4
-    add-if5
-    pass-run-requires-4
-    returns-5
+    is-far-requires
     sum-run-requires
     cast-total
     add-result
     mul-result
     sub-result
-    returns-6)
+    returns
+    is-low-requires
+    pass-low-requires
+    returns-2
+    pass-run-requires
+    returns-3)
