@@ -198,20 +198,20 @@ under-more levels j all x l u =
 
 -- ---- the pixels themselves
 
--- one plain octet between two pixels that are less than 128 above the least one
-near-step : (v v′ o : ℕ) → v < 128 → v′ < 128 → o < 256 → (o ≡ 128 → ⊥) → v′ ≡ (v + o) % 256 → pos (biasedLeast + v′) ≡ pos (biasedLeast + v) +ℤ signed 1 o
+-- one plain octet between two pixels that are less than 128 above base
+near-step : (base v v′ o : ℕ) → v < 128 → v′ < 128 → o < 256 → (o ≡ 128 → ⊥) → v′ ≡ (v + o) % 256 → pos (base + v′) ≡ pos (base + v) +ℤ signed 1 o
 unfolding half
-near-step v v′ o h h′ b p e = go (ltb o 128) refl
+near-step base v v′ o h h′ b p e = go (ltb o 128) refl
   where
-    go : (t : Bool) → ltb o 128 ≡ t → pos (biasedLeast + v′) ≡ pos (biasedLeast + v) +ℤ signed 1 o
+    go : (t : Bool) → ltb o 128 ≡ t → pos (base + v′) ≡ pos (base + v) +ℤ signed 1 o
     go true q =
         let l = ltb-true o 128 q in
-        let m : biasedLeast + v′ ≡ biasedLeast + v + o = omega arith in
-        ap pos m ∙ ap (λ (z : ℤ). pos (biasedLeast + v) +ℤ z) (sym (signed-low 1 o l))
+        let m : base + v′ ≡ base + v + o = omega arith in
+        ap pos m ∙ ap (λ (z : ℤ). pos (base + v) +ℤ z) (sym (signed-low 1 o l))
     go false q =
         let l = ltb-false o 128 q in
-        let m : biasedLeast + v′ ≡ biasedLeast + v - suc (256 - suc o) = omega arith in
-        ap pos m ∙ sym (subℕ-pos (biasedLeast + v) (suc (256 - suc o)) (omega arith)) ∙ ap (λ (z : ℤ). pos (biasedLeast + v) +ℤ z) (sym (signed-high 1 o l))
+        let m : base + v′ ≡ base + v - suc (256 - suc o) = omega arith in
+        ap pos m ∙ sym (subℕ-pos (base + v) (suc (256 - suc o)) (omega arith)) ∙ ap (λ (z : ℤ). pos (base + v) +ℤ z) (sym (signed-high 1 o l))
 
 module _ (os : List ℕ) (i n c : ℕ) (levels : List ℕ) (L : Levels os i c n levels) (small : (k : ℕ) → k < n → getD levels (16 + k) 0 < 128) (start : c < 128) (plain : Plain os i n) (inside : i + n ≤ length os)
     (octet : (k : ℕ) → getD os k 0 < 256) where
@@ -230,25 +230,25 @@ module _ (os : List ℕ) (i n c : ℕ) (levels : List ℕ) (L : Levels os i c n 
   follows : (m : ℕ) → m < n → getD levels (15 + (m + 1)) 0 ≡ (getD levels (15 + m) 0 + getD os (i + m) 0) % 256
   follows m h = let a = level m (omega arith) in let b = level (m + 1) (omega arith) in let t = total-more os i m in omega arith
 
-  near-passes : (top : ℕ) → biasedLeast + 127 ≤ top → (m : ℕ) → m ≤ n → Passes top os (biasedLeast + c) i m (biasedLeast + getD levels (15 + m) 0) (i + m)
-  near-passes top t zero h =
+  near-passes : (top base : ℕ) → biasedLeast ≤ base → base + 127 ≤ top → (m : ℕ) → m ≤ n → Passes top os (base + c) i m (base + getD levels (15 + m) 0) (i + m)
+  near-passes top base l t zero h =
       let e : i ≡ i + 0 = omega arith in
-      subst (Passes top os (biasedLeast + c) i 0 (biasedLeast + getD levels (15 + 0) 0)) e
-      (subst (λ (k : ℕ). Passes top os (biasedLeast + c) i 0 k i) (ap (λ (k : ℕ). biasedLeast + k) (sym first)) (passes-none top os (biasedLeast + c) i))
-  near-passes top t (suc m) h = more (near-passes top t m (omega arith))
+      subst (Passes top os (base + c) i 0 (base + getD levels (15 + 0) 0)) e
+      (subst (λ (k : ℕ). Passes top os (base + c) i 0 k i) (ap (λ (k : ℕ). base + k) (sym first)) (passes-none top os (base + c) i))
+  near-passes top base l t (suc m) h = more (near-passes top base l t m (omega arith))
     where
-      more : Passes top os (biasedLeast + c) i m (biasedLeast + getD levels (15 + m) 0) (i + m) → Passes top os (biasedLeast + c) i (suc m) (biasedLeast + getD levels (15 + suc m) 0) (i + suc m)
+      more : Passes top os (base + c) i m (base + getD levels (15 + m) 0) (i + m) → Passes top os (base + c) i (suc m) (base + getD levels (15 + suc m) 0) (i + suc m)
       more P =
-          let b = biasedLeast + getD levels (15 + m) 0 in
-          let b′ = biasedLeast + getD levels (15 + (m + 1)) 0 in
+          let b = base + getD levels (15 + m) 0 in
+          let b′ = base + getD levels (15 + (m + 1)) 0 in
           let v = low m (omega arith) in
           let v′ = low (m + 1) (omega arith) in
-          let e = near-step (getD levels (15 + m) 0) (getD levels (15 + (m + 1)) 0) (getD os (i + m) 0) v v′ (octet (i + m)) (plain m (omega arith)) (follows m (omega arith)) in
+          let e = near-step base (getD levels (15 + m) 0) (getD levels (15 + (m + 1)) 0) (getD os (i + m) 0) v v′ (octet (i + m)) (plain m (omega arith)) (follows m (omega arith)) in
           let x : i + m + 1 ≡ i + (m + 1) = omega arith in
-          subst (λ (k : ℕ). Passes top os (biasedLeast + c) i k (biasedLeast + getD levels (15 + k) 0) (i + k)) (add-one m)
-          (subst (Passes top os (biasedLeast + c) i (m + 1) b′) x
-          (passes-passes top os (biasedLeast + c) i m 1 b (i + m) b′ (i + m + 1) P (step-in (plain-took os (i + m) (omega arith) (plain m (omega arith))) (omega arith, omega arith) e (omega arith, omega arith))))
+          subst (λ (k : ℕ). Passes top os (base + c) i k (base + getD levels (15 + k) 0) (i + k)) (add-one m)
+          (subst (Passes top os (base + c) i (m + 1) b′) x
+          (passes-passes top os (base + c) i m 1 b (i + m) b′ (i + m + 1) P (step-in (plain-took os (i + m) (omega arith) (plain m (omega arith))) (omega arith, omega arith) e (omega arith, omega arith))))
 
   pub stays : Stays os i n c (getD levels (15 + n) 0)
   unfolding Stays
-  stays top T = let s = T .size in let l = T .large in near-passes top (omega arith) n (omega arith)
+  stays top base l t = near-passes top base l t n (omega arith)

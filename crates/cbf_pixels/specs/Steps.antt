@@ -148,9 +148,16 @@ Windows os i n sums = (k : ℕ) → k < 16 + n → (getD sums k 0 + total os i (
 unfoldable pub Levels : List ℕ → ℕ → ℕ → ℕ → List ℕ → Type 0
 Levels os i c n levels = (k : ℕ) → k < 16 + n → getD levels k 0 ≡ (c + total os i (k - 15)) % 256
 
--- n plain octets from i on lead from the pixel c above the least one to that r above it, in every type
+-- n plain octets from i on lead from the pixel c above base to that r above it, and stay less than 128 above base
 unfoldable pub Stays : List ℕ → ℕ → ℕ → ℕ → ℕ → Type 0
-Stays os i n c r = (top : ℕ) → Top top → Passes top os (biasedLeast + c) i n (biasedLeast + r) (i + n)
+Stays os i n c r = (top base : ℕ) → biasedLeast ≤ base → base + 127 ≤ top → Passes top os (base + c) i n (base + r) (i + n)
+
+-- a pixel from which the pixels up to 127 above it are in the type, and biased is one of them
+pub record Base (top biased base : ℕ) : Type 0 where
+  pub least : biasedLeast ≤ base
+  pub greatest : base + 127 ≤ top
+  pub low : base ≤ biased
+  pub high : biased < base + 128
 
 -- what a step of the first pass answers: 0 for pixels that do not unpack, else where the n pixels lead. Octets for 32 pixels
 -- of 15 are there, or nothing is behind the octets.

@@ -1,5 +1,5 @@
-// Plain octets near the lower end of a type, many at once: where a pixel is less than 128 above the type's least one, so are
-// those after it exactly when their sums modulo 256 are below 128.
+// Plain octets, many at once: where a pixel is less than 128 above some number, so are those after it exactly when their
+// distances from it, summed up modulo 256, are below 128.
 ghost use mathlib.Core.Path.{_≡_};
 ghost use mathlib.Core.List.{List};
 ghost use Prim.Native.Nat.{ℕ, _+_, _-_, _%_, _<_, _≤_};
@@ -55,8 +55,8 @@ fn levels(sums: &[u8; 1040], n: usize, pixels: &mut [u8; 1040]) -> u8
     all
 }
 
-// The distance from the least pixel after n plain octets from i on, where it is c before them; 255 where one of the
-// pixels is 128 or more above the least one or below it.
+// The distance from some number after n plain octets from i on, where it is c before them; 255 where one of the pixels is
+// below that number, or 128 or more above it.
 pub fn near(octets: &[u8], i: usize, n: usize, c: u8) -> u8
     requires { ⌜ (3 ≤ i) × (i + n ≤ length (now octets)) × (3 ≤ n) × (n ≤ 1024) × (c < 128) × Plain (now octets) i n ⌝ }
     ensures { λ r. ⌜ (r < 128 → Stays (now (octets .entry)) i n c r) ⌝ }

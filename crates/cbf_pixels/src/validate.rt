@@ -14,7 +14,7 @@ ghost use lib.IntN.{pos, subℕ, natAbs, _+ℤ_};
 ghost use Rattle.cbf_pixels.specs.Octets.{signed};
 ghost use Rattle.cbf_pixels.specs.Pixels.{within, least, greatest, unpackByteOffset};
 ghost use Rattle.cbf_pixels.specs.Answers.{isSome};
-ghost use Rattle.cbf_pixels.specs.Steps.{Whole, Plain, Glides, biasedLeast, biasedZero, biasedGreatest, pixelAt, Top, Between, Passes, Passed, Adds, Summable, ValidPart};
+ghost use Rattle.cbf_pixels.specs.Steps.{Whole, Plain, Glides, biasedLeast, biasedZero, biasedGreatest, pixelAt, Top, Between, Base, Passes, Passed, Adds, Summable, ValidPart};
 
 const BIASED_LEAST: u64 = 1099511627776;
 
@@ -131,36 +131,48 @@ fn at_most_1024(n: usize) -> usize
     if n < 1024 { n } else { 1024 }
 }
 
-// The same, where the pixel before them is less than 128 above the type's least one; 0 where it is not known.
-fn pass_low(octets: &[u8], i: usize, n: usize, biased: u64) -> u64
-    requires { ⌜ (biasedLeast ≤ biased) × (i + n ≤ length (now octets)) × Plain (now octets) i n × (n % 32 ≡ 0) × (3 ≤ i) × (biased < biasedLeast + 128) ⌝ }
-    ensures { λ r. ⌜ ((r ≡ 0 → ⊥) → (top : ℕ) → Top top → Between top r × Passes top (now (octets .entry)) biased i n r (i + n)) ⌝ }
+// Where 128 numbers of the type start, biased among them and as far from their ends as can be.
+fn base_of(biased: u64, top: u64) -> u64
+    requires { ⌜ Top top × Between top biased ⌝ }
+    ensures { λ r. ⌜ Base top biased r ⌝ }
 {
-    let mut above = (biased - BIASED_LEAST) as u8;
+    if biased < BIASED_LEAST + 64 {
+        return BIASED_LEAST;
+    }
+    if top < biased + 63 {
+        return top - 127;
+    }
+    biased - 64
+}
+
+// The same, or 0 where it is not known: in each part of the run the pixels have to stay near the one before it.
+fn pass_near(octets: &[u8], i: usize, n: usize, biased: u64, top: u64) -> u64
+    requires { ⌜ Top top × Between top biased × (i + n ≤ length (now octets)) × Plain (now octets) i n × (n % 32 ≡ 0) × (3 ≤ i) ⌝ }
+    ensures { λ r. ⌜ ((r ≡ 0 → ⊥) → Between top r × Passes top (now (octets .entry)) biased i n r (i + n)) ⌝ }
+{
+    let mut last = biased;
     let mut j: usize = 0;
     while j < n {
         let m = at_most_1024(n - j);
-        let next = near::near(octets, i + j, m, above);
-        if 127 < next {
+        let base = base_of(last, top);
+        let above = near::near(octets, i + j, m, (last - base) as u8);
+        if 127 < above {
             return 0;
         }
-        above = next;
+        last = base + octets::wide(above);
         j += m;
     }
-    BIASED_LEAST + octets::wide(above)
+    last
 }
 
-// Whether a run is long enough for pass_low, and starts where pass_low can.
-fn is_low(i: usize, n: usize, biased: u64) -> bool
-    ensures { λ r. ⌜ (r ≡ true → (3 ≤ i) × (biased < biasedLeast + 128)) ⌝ }
+// Whether pass_near is worth its start, and has the octets that it looks back at.
+fn is_long(i: usize, n: usize) -> bool
+    ensures { λ r. ⌜ (r ≡ true → 3 ≤ i) ⌝ }
 {
     if n < 96 {
         return false;
     }
-    if i < 3 {
-        return false;
-    }
-    biased < BIASED_LEAST + 128
+    3 <= i
 }
 
 // Whether 4,096 pixels of plain octets cannot leave the type.
@@ -183,10 +195,10 @@ fn pass_plain(octets: &[u8], i: usize, n: usize, biased: u64, top: u64) -> u64
         let total = sum_run(octets, i, n) as u64;
         return biased + total - 128 * n as u64;
     }
-    if is_low(i, n, biased) {
-        let low = pass_low(octets, i, n, biased);
-        if low != 0 {
-            return low;
+    if is_long(i, n) {
+        let last = pass_near(octets, i, n, biased, top);
+        if last != 0 {
+            return last;
         }
     }
     pass_run(octets, i, n, biased, top)

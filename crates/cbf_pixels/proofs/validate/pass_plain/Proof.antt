@@ -35,21 +35,21 @@ returns c =
     passed-to (a .top) (a .octets .now) (a .biased) (a .i) (a .n) (a .biased + t - 128 * a .n) (a .i + a .n) (omega (arith, p .5, F .0), omega (arith, p .5, F .1))
     (G .leads (a .top) (a .biased) (omega (arith, p .5, F .0)) (omega (arith, p .5, F .1))) (p .2)
 
-is-low-requires : tie.Need-is-low-requires
-is-low-requires c κs = search needs
+is-long-requires : tie.Need-is-long-requires
+is-long-requires c κs = search needs
 
-pass-low-requires : tie.Need-pass-low-requires
-pass-low-requires c κs =
+pass-near-requires : tie.Need-pass-near-requires
+pass-near-requires c κs =
     let p = c .before .before .before .before .before .pre in
-    let L = c .before .is-low .ensures (c .if2 .taken) in
-    (p .1 .0, p .2, p .3, p .4, L .0, L .1)
+    let L = c .before .is-long .ensures (c .if2 .taken) in
+    (p .0, p .1, p .2, p .3, p .4, L)
 
 returns-2 : tie.Need-returns-2
 returns-2 c =
     let a = c .before .before .before .before .before .before .before .args in
     let p = c .before .before .before .before .before .before .before .pre in
-    let P = c .before .pass-low .ensures (c .if3 .taken) (a .top) (p .0) in
-    passed-to (a .top) (a .octets .now) (a .biased) (a .i) (a .n) (c .before .pass-low .result) (a .i + a .n) (P .0) (P .1) (p .2)
+    let P = c .before .pass-near .ensures (c .if3 .taken) in
+    passed-to (a .top) (a .octets .now) (a .biased) (a .i) (a .n) (c .before .pass-near .result) (a .i + a .n) (P .0) (P .1) (p .2)
 
 pass-run-requires : tie.Need-pass-run-requires
 pass-run-requires c κs = search needs
@@ -68,8 +68,8 @@ pass-plain-spec =
     mul-result
     sub-result
     returns
-    is-low-requires
-    pass-low-requires
+    is-long-requires
+    pass-near-requires
     returns-2
     pass-run-requires
     returns-3)
