@@ -169,7 +169,7 @@ fn pass_near(octets: &[u8], i: usize, n: usize, biased: u64, top: u64) -> u64
 fn is_long(i: usize, n: usize) -> bool
     ensures { λ r. ⌜ (r ≡ true → 3 ≤ i) ⌝ }
 {
-    if n < 96 {
+    if n < 192 {
         return false;
     }
     3 <= i
