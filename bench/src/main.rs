@@ -2,14 +2,16 @@
 //!
 //! bench               compare, then measure; exit status 1 at the first difference or where a bar is not met
 //! bench compare       compare only
+//! bench measure WHAT  measure only pixels, files, calls or replacement
 //! bench program PATH  compare what the program cbf_list prints
 //! bench masked IN SECTION OUT LIMIT VALUE    what examples/replace.c is to write and to print
-//! bench run WHO WHAT FRAME TYPE TIMES    one call, that many times: what valgrind counts
+//! bench run pixels WHO CALL TYPE PATH TIMES    one call on a frame in a file, that many times: what valgrind counts
 //! bench run WHO FILE TIMES               one reading of a large file, that many times
 //! bench run WHO CALL FILE TIMES          one call on a file's sections, that many times
 //! bench run replacement CALL TIMES       memcpy, pack, or the number of a frame to replace in a large file, that many times
 
 mod cbf;
+mod clock;
 mod compare;
 mod compare_files;
 mod compare_masks;
@@ -24,8 +26,10 @@ mod large;
 mod masked;
 mod measure_calls;
 mod measure_files;
+mod measure_pixels;
 mod measure_replacement;
 mod other_programs;
+mod pixel_bars;
 mod program;
 mod reader;
 mod reference;
@@ -33,127 +37,26 @@ mod replaced_limits;
 mod replaced_vectors;
 mod replacement;
 mod sections;
+mod valgrind;
 mod vectors;
-
-use std::process::Command;
-use std::time::Instant;
 
 const TYPES: [&str; 6] = ["u8", "s8", "u16", "s16", "u32", "s32"];
 
-/// Instructions a pixel that may not be passed, on every element type: detector-like, noise.
-const BARS: [(&str, [f64; 2]); 2] = [("unpack", [10.5, 41.0]), ("pack", [10.0, 39.5])];
+/// What is measured, each by a function that tells whether its bars are met.
+const MEASURED: [(&str, fn() -> bool); 4] = [
+    ("pixels", measure_pixels::measure),
+    ("files", measure_files::measure),
+    ("calls", measure_calls::measure),
+    ("replacement", measure_replacement::measure),
+];
 
-fn type_number(name: &str) -> u8 {
-    1 + TYPES
-        .iter()
-        .position(|&t| t == name)
-        .expect("an element type") as u8
-}
-
-/// One call on a frame, that many times; the best time of one, in nanoseconds a pixel.
-fn run(who: &str, what: &str, frame: &str, element_type: u8, times: usize) -> f64 {
-    let pixels = frames::frame(frame, element_type);
-    let octets = reference::pack(element_type, &pixels, usize::MAX).unwrap();
-    let mut unpacked = vec![0i64; pixels.len()];
-    let mut packed = vec![0u8; 15 * pixels.len()];
-    let mut best = f64::INFINITY;
-    for _ in 0..times {
-        let start = Instant::now();
-        let ok = match (who, what) {
-            ("cbf", "unpack") => {
-                cbf::unpack_octets(element_type, 1, &octets, pixels.len(), &mut unpacked).is_ok()
-            }
-            ("cbf", "pack") => cbf::pack(element_type, &pixels, &mut packed).is_ok(),
-            ("plain", "unpack") => {
-                reference::peer::unpack(element_type, &octets, pixels.len(), &mut unpacked).is_ok()
-            }
-            ("plain", "pack") => reference::peer::pack(element_type, &pixels, &mut packed).is_ok(),
-            _ => panic!("cbf or plain, unpack or pack"),
-        };
-        best = best.min(start.elapsed().as_nanos() as f64 / pixels.len() as f64);
-        assert!(ok);
+/// Measures what has one of these names; the exit status is 1 where a bar is not met.
+fn measure(names: &[&str]) {
+    let chosen = MEASURED.iter().filter(|(name, _)| names.contains(name));
+    let met: Vec<bool> = chosen.map(|(_, measure)| measure()).collect();
+    if met.contains(&false) {
+        std::process::exit(1);
     }
-    if times > 0 {
-        let right = if what == "unpack" {
-            unpacked == pixels
-        } else {
-            packed[..octets.len()] == octets[..]
-        };
-        assert!(right, "{who} {what} {frame} {element_type}: not the frame");
-    }
-    best
-}
-
-/// Instructions of a run of this program, by valgrind; none where there is no valgrind.
-fn instructions(words: &[&str], times: usize) -> Option<f64> {
-    let me = std::env::current_exe().ok()?;
-    let out = Command::new("valgrind")
-        .args([
-            "--tool=cachegrind",
-            "--cache-sim=no",
-            "--cachegrind-out-file=/dev/null",
-        ])
-        .arg(me)
-        .arg("run")
-        .args(words)
-        .arg(times.to_string())
-        .output()
-        .ok()?;
-    let text = String::from_utf8_lossy(&out.stderr).into_owned();
-    let line = text
-        .lines()
-        .find(|l| l.contains("I") && l.contains("refs:"))?;
-    line.rsplit(':')
-        .next()?
-        .trim()
-        .replace(',', "")
-        .parse()
-        .ok()
-}
-
-/// Instructions a pixel: the difference of two repeat counts, so that set-up falls out.
-fn instructions_a_pixel(words: &[&str]) -> Option<f64> {
-    let (one, three) = (instructions(words, 1)?, instructions(words, 3)?);
-    Some((three - one) / 2.0 / frames::PIXELS as f64)
-}
-
-fn row(who: &str, what: &str, frame: &str, element_type: &str) -> Option<f64> {
-    let nanoseconds = run(who, what, frame, type_number(element_type), 20);
-    let count = instructions_a_pixel(&[who, what, frame, element_type]);
-    let shown = count.map_or("no valgrind".into(), |n| format!("{n:.2}"));
-    println!("| {what} | {frame} | {element_type} | {who} | {shown} | {nanoseconds:.2} |");
-    count
-}
-
-fn measure() -> bool {
-    println!("| call | frame | type | who | instructions a pixel | nanoseconds a pixel |");
-    println!("|---|---|---|---|---|---|");
-    let mut met = true;
-    for (what, bars) in BARS {
-        for (frame, bar) in ["detector", "noise"].into_iter().zip(bars) {
-            for element_type in TYPES {
-                if let Some(count) = row("cbf", what, frame, element_type) {
-                    if count > bar {
-                        println!("NOT MET: {what} {frame} {element_type} is above {bar}");
-                        met = false;
-                    }
-                }
-            }
-            row("plain", what, frame, "s32");
-        }
-    }
-    met
-}
-
-/// Whether all bars are met.
-fn measure_all() -> bool {
-    let met = [
-        measure(),
-        measure_files::measure(),
-        measure_calls::measure(),
-        measure_replacement::measure(),
-    ];
-    !met.contains(&false)
 }
 
 fn compare() {
@@ -176,8 +79,8 @@ fn compare() {
 fn run_words(words: &[&str]) -> bool {
     let number = |times: &str| times.parse().expect("a number");
     match *words {
-        [who, what, frame, element_type, times] => {
-            run(who, what, frame, type_number(element_type), number(times));
+        ["pixels", who, what, element_type, path, times] => {
+            measure_pixels::run(who, what, element_type, path, number(times));
         }
         ["replacement", call, times] => measure_replacement::run(call, number(times)),
         [who, file, times] => _ = measure_files::run(who, file, number(times)),
@@ -193,6 +96,7 @@ fn main() {
     match words[..] {
         ["run", ref words @ ..] if run_words(words) => {}
         ["compare"] => compare(),
+        ["measure", name] if MEASURED.iter().any(|row| row.0 == name) => measure(&[name]),
         ["program", path] => {
             let runs = program::all(path);
             println!("bench: {runs} runs of {path} compared, no difference");
@@ -202,12 +106,10 @@ fn main() {
         }
         [] => {
             compare();
-            if !measure_all() {
-                std::process::exit(1);
-            }
+            measure(&MEASURED.map(|(name, _)| name));
         }
         _ => {
-            println!("usage: bench [compare | program PATH | masked IN SECTION OUT LIMIT VALUE | run ..]; src/main.rs says what each does");
+            println!("usage: bench [compare | measure WHAT | program PATH | masked IN SECTION OUT LIMIT VALUE | run ..]; src/main.rs says what each does");
             std::process::exit(2);
         }
     }

@@ -1,8 +1,7 @@
 //! The speed of reading large files, the library's beside the straightforward reader's.
 
-use crate::{cbf, large, reader};
+use crate::{cbf, clock, large, reader, valgrind};
 use std::hint::black_box;
-use std::time::Instant;
 
 /// The library's instructions for one reading of text or of headers may not pass the straightforward reader's times this.
 const RATIO_BAR: f64 = 1.0;
@@ -41,13 +40,12 @@ pub fn run(who: &str, name: &str, times: usize) -> f64 {
     let mut out = vec![0; ROOM];
     let mut best = f64::INFINITY;
     for _ in 0..times {
-        let start = Instant::now();
-        let refusal = match who {
+        let (refusal, time) = clock::timed(|| match who {
             "cbf" => cbf::listing(black_box(&file), &mut out).err(),
             "plain" => reader::read(black_box(&file)).err(),
             _ => panic!("cbf or plain"),
-        };
-        best = best.min(start.elapsed().as_nanos() as f64 / units as f64);
+        });
+        best = best.min(time / units as f64);
         assert_eq!(refusal.map(|r| r.0), number, "{who} {name}");
     }
     best
@@ -55,7 +53,7 @@ pub fn run(who: &str, name: &str, times: usize) -> f64 {
 
 /// Instructions a byte or letter: the difference of two repeat counts, so that set-up falls out.
 fn instructions(who: &str, name: &str) -> Option<f64> {
-    let count = |times| crate::instructions(&[who, name], times);
+    let count = |times| valgrind::instructions(&[who, name], times);
     Some((count(3)? - count(1)?) / 2.0 / file(name).1 as f64)
 }
 

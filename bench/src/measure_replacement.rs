@@ -2,9 +2,8 @@
 //! file.
 
 use crate::replacement::{self, Edit};
-use crate::{cbf, frames, large, reader, reference};
+use crate::{cbf, clock, frames, large, reader, reference, valgrind};
 use std::hint::black_box;
-use std::time::Instant;
 
 /// Instructions above packing the frame that may not be passed, in those of memcpy of the file.
 const BAR: f64 = 1.2;
@@ -73,9 +72,8 @@ fn nanoseconds(input: &mut Input) -> [f64; 2 + NUMBERS.len()] {
     let mut best = [f64::INFINITY; 2 + NUMBERS.len()];
     for _ in 0..TIMES {
         for (what, best) in calls().iter().zip(&mut best) {
-            let start = Instant::now();
-            let answer = call(input, what);
-            *best = best.min(start.elapsed().as_nanos() as f64);
+            let (answer, time) = clock::timed(|| call(input, what));
+            *best = best.min(time);
             assert!(answer.is_some(), "{what}");
         }
     }
@@ -101,10 +99,10 @@ fn check(input: &mut Input) {
 
 /// Instructions of a call: what two of them take above none, so that set-up, the same for all, falls out.
 fn instructions() -> Option<[f64; 2 + NUMBERS.len()]> {
-    let none = crate::instructions(&["replacement", "none"], 0)?;
+    let none = valgrind::instructions(&["replacement", "none"], 0)?;
     let mut counts = [0.0; 2 + NUMBERS.len()];
     for (what, count) in calls().iter().zip(&mut counts) {
-        *count = (crate::instructions(&["replacement", what], 2)? - none) / 2.0;
+        *count = (valgrind::instructions(&["replacement", what], 2)? - none) / 2.0;
     }
     Some(counts)
 }
