@@ -1,5 +1,5 @@
-//! The speed of replacing one frame in a file of 256 MiB: what it takes above packing the frame alone, beside memcpy of the
-//! file.
+//! The speed of replacing one frame in a file of 256 MiB: what it takes above packing the frame alone into exact room, beside
+//! memcpy of the file.
 
 use crate::replacement::{self, Edit};
 use crate::{cbf, clock, frames, large, reader, reference, valgrind};
@@ -20,10 +20,11 @@ const PAGE: usize = 4_096;
 /// How often a call is timed.
 const TIMES: usize = 7;
 
-/// A file, a new frame for each of its sections, and memory that was touched.
+/// A file, a new frame for each of its sections, how many octets that one takes, and memory that was touched.
 struct Input {
     file: Vec<u8>,
     frame: Vec<i64>,
+    packed: usize,
     out: Vec<u8>,
 }
 
@@ -40,9 +41,15 @@ fn input() -> Input {
     for line in frame.chunks_mut(width).skip(height / 2).take(60) {
         line[width / 2..width / 2 + 50].fill(-1);
     }
+    let packed = reference::peer::pack(6, &frame, &mut octets).expect("pixels of s32");
     let mut out = vec![0; file.len() + 1_000 + 15 * frame.len()];
     out.iter_mut().step_by(PAGE).for_each(|byte| *byte = 1);
-    Input { file, frame, out }
+    Input {
+        file,
+        frame,
+        packed,
+        out,
+    }
 }
 
 /// `memcpy`, `pack`, or the number of the frame to replace.
@@ -54,7 +61,8 @@ fn call(input: &mut Input, call: &str) -> Option<usize> {
             out[..file.len()].copy_from_slice(file);
             Some(file.len())
         }
-        "pack" => cbf::pack(6, frame, out).ok(),
+        // A frame that is replaced is packed into a place of its size, not into room for 15 octets a pixel.
+        "pack" => cbf::pack(6, frame, &mut out[..input.packed]).ok(),
         number => cbf::replace(file, number.parse().expect("a number"), frame, out).ok(),
     }
 }
