@@ -25,7 +25,8 @@ pub fn canaries(random: &mut Random, n: usize) -> Vec<i64> {
     (0..n).map(|_| random.next() as i64).collect()
 }
 
-fn check_pack(element_type: u8, pixels: &[i64], room: usize, random: &mut Random) {
+/// The refusal's number, or 0.
+pub fn check_pack(element_type: u8, pixels: &[i64], room: usize, random: &mut Random) -> u32 {
     let before: Vec<u8> = (0..room).map(|_| random.next() as u8).collect();
     let mut out = before.clone();
     let got = cbf::pack(element_type, pixels, &mut out);
@@ -40,16 +41,18 @@ fn check_pack(element_type: u8, pixels: &[i64], room: usize, random: &mut Random
             "pack type {element_type} room {room} pixels {pixels:?}: {got:?}, and not {answer:?}"
         ));
     }
+    answer.map_or_else(|(number, _)| number, |_| 0)
 }
 
-fn check_unpack(
+/// The refusal's number, or 0.
+pub fn check_unpack(
     element_type: u8,
     compression: u8,
     octets: &[u8],
     count: usize,
     room: usize,
     random: &mut Random,
-) {
+) -> u32 {
     let before = canaries(random, room);
     let mut out = before.clone();
     let got = cbf::unpack_octets(element_type, compression, octets, count, &mut out);
@@ -64,6 +67,7 @@ fn check_unpack(
             "unpack type {element_type} compression {compression} count {count} room {room} octets {octets:02x?}: {got:?}, and not {answer:?}"
         ));
     }
+    answer.map_or_else(|(number, _)| number, |_| 0)
 }
 
 /// Tells of the first difference, and ends the run.

@@ -111,9 +111,9 @@ fn check_octets(file: &[u8], read: &Read, number: usize, random: &mut Random, ta
 }
 
 /// What unpacking a section is to say where there is room.
-type Pixels = Result<Vec<i64>, Refusal>;
+pub type Pixels = Result<Vec<i64>, Refusal>;
 
-fn check_room(
+pub fn check_room(
     file: &[u8],
     pixels: &Pixels,
     number: usize,

@@ -13,6 +13,7 @@
 mod cbf;
 mod clock;
 mod compare;
+mod compare_edges;
 mod compare_files;
 mod compare_masks;
 mod compare_replacements;
@@ -20,6 +21,7 @@ mod compare_sections;
 mod compare_vectors;
 mod contents;
 mod damage;
+mod edges;
 mod files;
 mod frames;
 mod large;
@@ -29,6 +31,7 @@ mod measure_files;
 mod measure_pixels;
 mod measure_replacement;
 mod other_programs;
+mod pack_edges;
 mod pixel_bars;
 mod program;
 mod reader;
@@ -37,6 +40,7 @@ mod replaced_limits;
 mod replaced_vectors;
 mod replacement;
 mod sections;
+mod unpack_edges;
 mod valgrind;
 mod vectors;
 
@@ -61,6 +65,10 @@ fn measure(names: &[&str]) {
 
 fn compare() {
     println!("bench: {} calls compared, no difference", compare::all());
+    println!(
+        "bench: {} calls at the edges of loops compared, no difference",
+        compare_edges::all()
+    );
     println!(
         "bench: {} calls on files compared, no difference",
         compare_files::all()
