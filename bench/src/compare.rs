@@ -21,6 +21,9 @@ const EDGES: [i64; 12] = [
     4_294_967_295,
 ];
 
+/// So many octets are shown of those that make a difference.
+const SHOWN: usize = 20_000;
+
 pub fn canaries(random: &mut Random, n: usize) -> Vec<i64> {
     (0..n).map(|_| random.next() as i64).collect()
 }
@@ -63,8 +66,9 @@ pub fn check_unpack(
         pixels.len()
     });
     if got != answer || out != after {
+        let (shown, size) = (&octets[..octets.len().min(SHOWN)], octets.len());
         differ(format!(
-            "unpack type {element_type} compression {compression} count {count} room {room} octets {octets:02x?}: {got:?}, and not {answer:?}"
+            "unpack type {element_type} compression {compression} count {count} room {room} {size} octets {shown:02x?}: {got:?}, and not {answer:?}"
         ));
     }
     answer.map_or_else(|(number, _)| number, |_| 0)

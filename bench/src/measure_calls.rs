@@ -8,8 +8,13 @@ use std::hint::black_box;
 /// Instructions a pixel that unpacking a section in BINARY may take above unpacking its octets.
 const MORE_BAR: f64 = 2.0;
 
-/// Instructions an octet that unpacking a section in BASE64 may take.
-const BASE64_BAR: f64 = 60.0;
+/// Instructions an octet that unpacking a section in BASE64 may take, about 5 % above what was measured when they were set.
+const BASE64_BARS: [(&str, f64); 4] = [
+    ("base64_detector", 50.6),
+    ("base64_noise", 50.9),
+    ("base64_strong", 56.9),
+    ("base64_u16", 30.9),
+];
 
 /// The catalogue reads the file twice: it may take the instructions of so many counts, and one more for each byte that it writes.
 const CATALOGUE_BAR: f64 = 2.0;
@@ -182,17 +187,12 @@ fn measure_base64() -> bool {
     );
     println!("|---|---|---|---|---|---|");
     let mut all = true;
-    for name in [
-        "base64_detector",
-        "base64_noise",
-        "base64_strong",
-        "base64_u16",
-    ] {
+    for (name, bar) in BASE64_BARS {
         let costs = costs([("cbf", "unpack"), ("plain", "unpack")], name);
         let octets = input(name).octets.len();
         let counts = row(name, octets as f64, costs, |one, other| one / other);
         let an_octet = counts.map(|[an_octet, _]| an_octet);
-        all &= met(&format!("cbf_unpack {name}"), an_octet, BASE64_BAR);
+        all &= met(&format!("cbf_unpack {name}"), an_octet, bar);
     }
     all
 }

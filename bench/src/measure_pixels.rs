@@ -99,6 +99,12 @@ impl Lent {
         }
     }
 
+    /// What no call leaves, where one is to leave the frame.
+    fn spoil(&mut self, frame: &Frame) {
+        self.pixels[..frame.pixels.len()].fill(i64::MIN);
+        self.octets[..frame.octets.len()].fill(0x80);
+    }
+
     /// Whether a call left the frame here.
     fn holds(&self, what: &str, frame: &Frame) -> bool {
         match what {
@@ -172,7 +178,7 @@ fn time_round(
     for number in shuffled(WAYS, random) {
         let (who, what) = way(number);
         if look {
-            *lent = Lent::new(lent.pixels.len());
+            lent.spoil(frame);
         }
         let (right, time) = clock::timed(|| call(who, what, frame, lent));
         assert!(right, "{who} {what}: another length");
