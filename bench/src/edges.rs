@@ -1,4 +1,4 @@
-//! What the comparisons at the edges of the loops share: types, the calls with their tally, and differences put together.
+//! What the comparisons at the edges of loops share: types, the calls with their tally, and differences put together.
 
 use crate::compare::{check_pack, check_unpack};
 use crate::compare_sections::{check_room, Pixels};

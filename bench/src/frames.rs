@@ -122,9 +122,9 @@ impl Counts {
     }
 }
 
-/// Poisson background whose mean is 200 and goes smoothly from 140 to 260, in whole steps; 5 % of the pixels are in peaks of
-/// 3 × 3 (heights e^5 to e^9, a half of that beside the middle and a quarter in the corners), so that 5 % of the differences
-/// take three octets and none takes more. Counts are cut to the type.
+/// Poisson background whose mean is 200 and goes smoothly from 140 to 260, in whole steps; 5 % of the pixels are in
+/// peaks of 3 × 3 (heights e^5 to e^9, a half of that beside the middle and a quarter in the corners), so that 5 % of the
+/// differences take three octets and none takes more. Counts are cut to the type.
 fn strong(element_type: u8, (width, height): Size, random: &mut Random) -> Vec<i64> {
     let (_, greatest, _) = range(element_type).unwrap();
     let counts: Vec<Counts> = (0..=260).map(|mean| Counts::new(f64::from(mean))).collect();

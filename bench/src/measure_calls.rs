@@ -8,7 +8,7 @@ use std::hint::black_box;
 /// Instructions a pixel that unpacking a section in BINARY may take above unpacking its octets.
 const MORE_BAR: f64 = 2.0;
 
-/// Instructions an octet that unpacking a section in BASE64 may take, about 5 % above what was measured when they were set.
+/// Instructions an octet that unpacking a section in BASE64 may take: about 5 % above what was measured at the time.
 const BASE64_BARS: [(&str, f64); 4] = [
     ("base64_detector", 50.6),
     ("base64_noise", 50.9),

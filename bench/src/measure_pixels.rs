@@ -1,6 +1,6 @@
 //! The speed of packing and unpacking pixels, beside plain Rust: each call on frames of several kinds and types.
 //!
-//! Times are of the thread, the least of many rounds; each round takes the frames in a new order, and so the calls on each.
+//! Times are of the thread, the least of many rounds; each round takes the frames in a new order, and the calls on each.
 
 use crate::frames::{Random, Size};
 use crate::pixel_bars::bar;
@@ -133,7 +133,8 @@ fn call(who: &str, what: &str, frame: &Frame, lent: &mut Lent) -> bool {
     }
 }
 
-/// One call on a frame that was written, that many times: what valgrind counts. `time_round` looks at what the calls write.
+/// One call on a frame that was written, that many times: what valgrind counts. What the calls leave is looked at in
+/// `time_round`.
 pub fn run(who: &str, what: &str, element_type: &str, path: &str, times: usize) {
     let frame = Frame::read(type_number(element_type), path);
     let mut lent = Lent::new(frame.pixels.len());
@@ -234,7 +235,10 @@ fn cells(counts: Option<[f64; 2]>, bar: f64, [cbf, plain]: [f64; 2]) -> String {
 
 /// Whether the bars are met.
 fn measure_small() -> bool {
-    println!("| call | frame | type | octets a pixel | instructions a pixel | bar | nanoseconds | plain: instructions | nanoseconds | ratio of times |");
+    println!(
+        "| call | frame | type | octets a pixel | instructions a pixel | bar | nanoseconds | plain: instructions \
+        | nanoseconds | ratio of times |"
+    );
     println!("|---|---|---|---|---|---|---|---|---|---|");
     let pairs = pairs(&SMALL);
     let all = make(&pairs, frames::SMALL);

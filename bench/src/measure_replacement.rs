@@ -1,5 +1,5 @@
-//! The speed of replacing one frame in a file of 256 MiB: what it takes above packing the frame alone into exact room, beside
-//! memcpy of the file.
+//! The speed of replacing one frame in a file of 256 MiB: what it takes above packing the frame alone into exact room,
+//! beside memcpy of the file.
 
 use crate::replacement::{self, Edit};
 use crate::{cbf, clock, frames, large, reader, reference, valgrind};

@@ -1,5 +1,5 @@
-//! Frames that drive packing to the edges of its loops: parts of 128 pixels and about that, dense and quiet ones, with room
-//! that is just enough for each way to write them, and one octet less.
+//! Frames that drive packing to the edges of its loops: parts of 128 pixels and about that, dense and quiet ones, with
+//! room that is just enough for each way to write them, and one octet less.
 
 use crate::edges::{between, Edges, Kind};
 use crate::reference;
@@ -78,8 +78,8 @@ fn rooms(frame: &[i64]) -> Vec<usize> {
     rooms
 }
 
-/// Room that is as much as 15 octets for each pixel of what is left, of a part or of a block, somewhere behind the first
-/// pixels; or one octet less or more.
+/// Room that is as much as 15 octets for each pixel of what is left, of a part or of a block, somewhere behind the
+/// first pixels; or one octet less or more.
 fn room_from_within(frame: &[i64], edges: &mut Edges) -> usize {
     let step = [PART, BLOCK][edges.random.below(2)];
     let done = step * edges.random.below(frame.len() / step + 1);
@@ -224,7 +224,7 @@ fn outside(kind: Kind, edges: &mut Edges) {
     }
 }
 
-/// Pixels on both sides of a power of two, as far as the type goes: near each other, and to and fro between such numbers.
+/// Pixels on both sides of a power of two, as far as the type goes: near each other, and to and fro between several.
 fn powers(kind: Kind, edges: &mut Edges) {
     let numbers = [0, 7, 8, 15, 16, 24, 29, 30, 31, 32].map(|bits| 1i64 << bits);
     let numbers: Vec<i64> = numbers.into_iter().flat_map(|n| [n, -n]).collect();

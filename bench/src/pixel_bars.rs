@@ -1,6 +1,6 @@
 //! What packing and unpacking pixels may take.
 
-/// Instructions a pixel that may not be passed, about 5 % above what was measured when they were set: call, frame, types.
+/// Call, frame, types, and instructions a pixel that may not be passed: about 5 % above what was measured at the time.
 const BARS: &[(&str, &str, &[&str], f64)] = &[
     ("unpack", "detector", &["u8", "u16", "u32", "s32"], 6.3),
     ("unpack", "detector", &["s16"], 6.6),

@@ -1,5 +1,5 @@
-//! Octets that drive unpacking to the edges of its loops: runs of plain octets that reach an end of the type, pixels that
-//! leave a window, and differences of three octets at every place of a block.
+//! Octets that drive unpacking to the edges of its loops: runs of plain octets that reach an end of the type, pixels
+//! that leave a window, and differences of three octets at every place of a block.
 
 use crate::edges::{between, Differences, Edges, Kind, Pace, PACES};
 
@@ -143,7 +143,7 @@ fn about(
     edges.unpack(kind, &made);
 }
 
-/// Runs between two numbers, reaching both, anywhere in the type and at its ends; then with one pixel beyond one of them.
+/// Runs between two numbers, reaching both, anywhere in the type and at its ends; also with one pixel beyond them.
 fn bands(kind: Kind, edges: &mut Edges) {
     for size in [
         1, 63, 64, 126, 127, 128, 129, 191, 192, 254, 255, 256, 257, 300,
