@@ -13,6 +13,9 @@ pub mod Rest
 pub mod Bounds
 pub mod Passing
 pub mod Modulo
+pub mod MarkLaws
+pub mod LevelLaws
+pub mod EscapeLaws
 pub mod Filling
 pub mod Parts
 pub mod Forms

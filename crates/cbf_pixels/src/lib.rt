@@ -4,6 +4,7 @@ mod dense;
 mod difference;
 mod fill;
 mod measure;
+mod mixed;
 mod near;
 mod octets;
 mod plain;

@@ -1,0 +1,122 @@
+-- What mixed.rt says of its work: 192 octets, of which some are escapes, passed at once. Nothing here is part of what the
+-- public calls promise.
+use Prim.Native.Nat.{ℕ, zero, suc, _+_, _*_, _-_, _%_, _<_, _≤_}
+use mathlib.Core.Path.{_≡_}
+use mathlib.Core.List.{List}
+use mathlib.Core.Bool.{Bool, true, false}
+use mathlib.Core.Logic.{_⊎_}
+use lib.Bits.{bitAnd, bitOr, bitXor}
+use lib.Dec.{ltb, eqb}
+use lib.ListN.{length, getD}
+use lib.IntN.{ℤ, pos, _+ℤ_}
+use Rattle.cbf_pixels.specs.Octets.{pick, signed}
+
+-- of an array of size numbers: from 16 on stand the n that f gives, and before them what stood there
+pub record Written (f : ℕ → ℕ) (n size : ℕ) (before xs : List ℕ) : Type 0 where
+  pub is : (j : ℕ) → j < n → getD xs (16 + j) 0 ≡ f j
+  pub same : (k : ℕ) → k < 16 → getD xs k 0 ≡ getD before k 0
+  pub long : length xs ≡ size
+
+-- ---- marks: 255 for the escape, else 0
+
+unfoldable pub markOf : ℕ → ℕ
+unfolding pick
+markOf o = pick (eqb o 128) 255 0
+
+-- the mark of the octet j behind i
+abbrev pub markAt : List ℕ → ℕ → ℕ → ℕ
+markAt os i j = markOf (getD os (i + j) 0)
+
+abbrev pub IsMark : ℕ → Type 0
+IsMark m = (m ≡ 0) ⊎ (m ≡ 255)
+
+abbrev pub EachMark : List ℕ → Type 0
+EachMark ms = (k : ℕ) → k < 208 → IsMark (getD ms k 0)
+
+-- the marks of the 192 octets from i on, and 0 before them
+pub record Marked (os : List ℕ) (i : ℕ) (ms : List ℕ) : Type 0 where
+  pub mark : (j : ℕ) → j < 192 → getD ms (16 + j) 0 ≡ markAt os i j
+  pub none : (k : ℕ) → k < 16 → getD ms k 0 ≡ 0
+  pub long : length ms ≡ 208
+
+-- no mark stands within two behind another
+abbrev pub Apart : List ℕ → Type 0
+Apart ms = (j : ℕ) → j < 192 → bitAnd (getD ms (16 + j) 0) (bitOr (getD ms (15 + j) 0) (getD ms (14 + j) 0)) ≡ 0
+
+-- 1 where a difference ends: at an octet with the mark c, and b before it
+unfoldable pub endOf : ℕ → ℕ → ℕ
+unfolding pick
+endOf b c = pick (ltb 0 (b + c)) 0 1
+
+-- how many differences end in the first n octets
+unfoldable pub endsTo : List ℕ → ℕ → ℕ
+unfolding endOf
+endsTo ms zero = 0
+endsTo ms (suc n) = endsTo ms n + endOf (getD ms (15 + n) 0) (getD ms (16 + n) 0)
+
+-- how many of the octets are of whole differences
+unfoldable pub wholeOf : List ℕ → ℕ
+unfolding pick
+wholeOf ms = pick (ltb 0 (getD ms 207 0)) 191 (pick (ltb 0 (getD ms 206 0)) 190 192)
+
+-- ---- what an octet adds to the pixel before it, as a number of 16 bits
+
+-- by the marks of an octet and of the two before it: x where it is plain, y where it is two behind an escape, else 0
+unfoldable pub choose : ℕ → ℕ → ℕ → ℕ → ℕ → ℕ
+unfolding pick
+choose a b c x y = pick (ltb 0 a) y (pick (ltb 0 (b + c)) 0 x)
+
+-- the octet that a plain octet is extended by
+unfoldable pub signOf : ℕ → ℕ
+unfolding pick
+signOf o = pick (ltb o 128) 0 255
+
+abbrev pub lowAt : List ℕ → ℕ → List ℕ → ℕ → ℕ
+lowAt os i ms j = choose (getD ms (14 + j) 0) (getD ms (15 + j) 0) (getD ms (16 + j) 0) (getD os (i + j) 0) (getD os (i + j - 1) 0)
+
+abbrev pub highAt : List ℕ → ℕ → List ℕ → ℕ → ℕ
+highAt os i ms j = choose (getD ms (14 + j) 0) (getD ms (15 + j) 0) (getD ms (16 + j) 0) (signOf (getD os (i + j) 0)) (getD os (i + j) 0)
+
+abbrev pub joinedAt : List ℕ → List ℕ → ℕ → ℕ
+joinedAt low high j = getD low (16 + j) 0 + 256 * getD high (16 + j) 0
+
+abbrev pub addedAt : List ℕ → ℕ → List ℕ → ℕ → ℕ
+addedAt os i ms j = lowAt os i ms j + 256 * highAt os i ms j
+
+-- what 192 octets add stands from 16 on, and 0 before
+pub record Addends (ds : List ℕ) : Type 0 where
+  pub none : (k : ℕ) → k < 16 → getD ds k 0 ≡ 0
+  pub number : (k : ℕ) → k < 208 → getD ds k 0 < 65536
+  pub long : length ds ≡ 208
+
+-- ---- the pixels after each octet
+
+-- the sum of a number and of that back before it, modulo 65,536
+abbrev pub backAt : List ℕ → ℕ → ℕ → ℕ
+backAt xs back j = (getD xs (16 + j) 0 + getD xs (16 + j - back) 0) % 65536
+
+-- the sum of the n numbers from 16 on
+unfoldable pub sumTo : List ℕ → ℕ → ℕ
+sumTo ds zero = 0
+sumTo ds (suc n) = sumTo ds n + getD ds (16 + n) 0
+
+-- at k stands the sum of the w numbers of ds up to k, modulo 65,536
+unfoldable pub SumsOf : List ℕ → ℕ → List ℕ → Type 0
+SumsOf ds w xs = (k : ℕ) → k < 208 → (getD xs k 0 + sumTo ds (k - 15 - w)) % 65536 ≡ sumTo ds (k - 15) % 65536
+
+-- from 15 on stand c and the sums with it up to each of the first n numbers of ds, modulo 65,536
+unfoldable pub LevelsOf : List ℕ → ℕ → ℕ → List ℕ → Type 0
+LevelsOf ds c n xs = (k : ℕ) → k < 16 + n → getD xs k 0 ≡ (c + sumTo ds (k - 15)) % 65536
+
+-- the sum of the first n numbers of ds as signed ones, each plus 32,768
+unfoldable pub raisedTo : List ℕ → ℕ → ℕ
+raisedTo ds zero = 0
+raisedTo ds (suc n) = raisedTo ds n + bitXor (getD ds (16 + n) 0) 32768
+
+-- from b to b′ by the numbers of ds from 16 on, each added as a signed one, never below low or above high
+pub record Walk (ds : List ℕ) (low high b b′ : ℕ) : Type 0 where
+  pub at : ℕ → ℕ
+  pub first : at 0 ≡ b
+  pub last : at 192 ≡ b′
+  pub step : (j : ℕ) → j < 192 → pos (at (j + 1)) ≡ pos (at j) +ℤ signed 2 (getD ds (16 + j) 0)
+  pub inside : (j : ℕ) → j ≤ 192 → (low ≤ at j) × (at j ≤ high)
