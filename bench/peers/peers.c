@@ -1,0 +1,143 @@
+/* One call of each program, measured: our library's and CBFlib's. fabio's calls are made in peers.py.
+ *
+ * Our functions come as pointers, for two reasons: several builds of our library can be measured in one process, each a
+ * shared object of its own, and include/cbf.h cannot be included beside CBFlib's cbf.h (same name, same guard CBF_H). The
+ * types of the pointers below are those of include/cbf.h.
+ *
+ * Each function here returns the nanoseconds of the one call that it measures, or -1 where the call did not do its work.
+ * Memory is lent by the caller and was touched before.
+ */
+#define _GNU_SOURCE
+#include <stdint.h>
+#include <stdio.h>
+#include <string.h>
+#include <time.h>
+#include <cbf.h>
+#include <cbf_byte_offset.h>
+#include <cbf_file.h>
+
+#if __has_include(<valgrind/callgrind.h>)
+#include <valgrind/callgrind.h>
+#else
+#define CALLGRIND_ZERO_STATS
+#define CALLGRIND_TOGGLE_COLLECT
+#define CALLGRIND_START_INSTRUMENTATION
+#define CALLGRIND_DUMP_STATS_AT(label) (void)(label)
+#endif
+
+typedef uint64_t pack_call(uint8_t element_type, const int64_t *pixels, size_t count, uint8_t *out, size_t room);
+typedef uint64_t unpack_octets_call(uint8_t element_type, uint8_t compression, const uint8_t *octets, size_t octets_len,
+                                    size_t count, int64_t *pixels, size_t room);
+typedef uint64_t unpack_call(const uint8_t *file, size_t file_len, size_t section, int64_t *pixels, size_t room);
+typedef uint64_t replace_call(const uint8_t *file, size_t file_len, size_t section, const int64_t *frame,
+                              size_t frame_len, uint8_t *out, size_t room);
+
+enum { BYTE_OFFSET = 1 };
+
+/* The label of the row that instructions are counted for; null while time is measured. */
+static const char *counted;
+static int64_t began;
+
+void peers_count(const char *label) {
+    if (counted == NULL && label != NULL)
+        CALLGRIND_START_INSTRUMENTATION;
+    counted = label;
+}
+
+static int64_t thread_time(void) {
+    struct timespec now;
+    clock_gettime(CLOCK_THREAD_CPUTIME_ID, &now);
+    return now.tv_sec * INT64_C(1000000000) + now.tv_nsec;
+}
+
+void peers_begin(void) {
+    if (counted != NULL) {
+        CALLGRIND_ZERO_STATS;
+        CALLGRIND_TOGGLE_COLLECT;
+    } else {
+        began = thread_time();
+    }
+}
+
+int64_t peers_end(void) {
+    if (counted == NULL)
+        return thread_time() - began;
+    CALLGRIND_TOGGLE_COLLECT;
+    CALLGRIND_DUMP_STATS_AT(counted);
+    return 0;
+}
+
+int64_t peers_memcpy(void *to, const void *from, size_t size) {
+    peers_begin();
+    memcpy(to, from, size);
+    return peers_end();
+}
+
+/* Ours: octets to pixels, and pixels to octets. */
+
+int64_t ours_unpack_octets(unpack_octets_call *call, uint8_t element_type, const uint8_t *octets, size_t size,
+                           size_t count, int64_t *pixels) {
+    peers_begin();
+    uint64_t word = call(element_type, BYTE_OFFSET, octets, size, count, pixels, count);
+    int64_t took = peers_end();
+    return word == count ? took : -1;
+}
+
+int64_t ours_pack(pack_call *call, uint8_t element_type, const int64_t *pixels, size_t count, uint8_t *out, size_t room,
+                  size_t *size) {
+    peers_begin();
+    uint64_t word = call(element_type, pixels, count, out, room);
+    int64_t took = peers_end();
+    *size = (uint32_t)word;
+    return word >> 32 == 0 ? took : -1;
+}
+
+/* CBFlib: the codec reads and writes through a cbf_file. One that has no stream is what the library itself packs to and
+ * unpacks from in memory. Its buffer is set before the call, so that nothing is read, grown or flushed in it. */
+
+static int memory_file(cbf_file **file) {
+    return *file == NULL ? cbf_make_file(file, NULL) : 0;
+}
+
+/* The octets are where the file's buffer would be. */
+int64_t cbflib_unpack_octets(size_t element_size, int element_sign, const uint8_t *octets, size_t size, size_t count,
+                             void *pixels) {
+    static cbf_file *file;
+    size_t got = 0;
+    if (memory_file(&file) != 0)
+        return -1;
+    char *own = file->characters;
+    file->characters = (char *)octets;
+    file->characters_used = size;
+    peers_begin();
+    int error = cbf_decompress_byte_offset(pixels, element_size, element_sign, count, &got, size, CBF_BYTE_OFFSET,
+                                           8 * (int)element_size, element_sign, file, 0, "little_endian", count, count,
+                                           0, 0, 0);
+    int64_t took = peers_end();
+    file->characters = own;
+    file->characters_used = 0;
+    return error == 0 && got == count ? took : -1;
+}
+
+static cbf_file *packed_to;
+
+int64_t cbflib_pack(size_t element_size, int element_sign, void *pixels, size_t count, size_t *size) {
+    int bits = 0;
+    *size = 0;
+    if (memory_file(&packed_to) != 0 || cbf_set_io_buffersize(packed_to, 32 * count + 4096) != 0)
+        return -1;
+    cbf_file before = *packed_to;
+    peers_begin();
+    int error = cbf_compress_byte_offset(pixels, element_size, element_sign, count, CBF_BYTE_OFFSET, packed_to, size,
+                                         &bits, 0, "little_endian", count, 0, 0, 0);
+    int64_t took = peers_end();
+    int moved = packed_to->characters_base != before.characters_base;
+    before.characters_base = packed_to->characters_base;
+    *packed_to = before;
+    return error == 0 && !moved ? took : -1;
+}
+
+/* Where the octets are that cbflib_pack wrote last. */
+const char *cbflib_packed(void) {
+    return packed_to->characters_base;
+}
