@@ -34,14 +34,13 @@ typedef uint64_t replace_call(const uint8_t *file, size_t file_len, size_t secti
 
 enum { BYTE_OFFSET = 1 };
 
-/* The label of the row that instructions are counted for; null while time is measured. */
-static const char *counted;
+/* The label of the call that instructions are counted for; empty while time is measured. */
+static char counted[256];
 static int64_t began;
 
 void peers_count(const char *label) {
-    if (counted == NULL && label != NULL)
-        CALLGRIND_START_INSTRUMENTATION;
-    counted = label;
+    snprintf(counted, sizeof counted, "%s", label);
+    CALLGRIND_START_INSTRUMENTATION;
 }
 
 static int64_t thread_time(void) {
@@ -51,7 +50,7 @@ static int64_t thread_time(void) {
 }
 
 void peers_begin(void) {
-    if (counted != NULL) {
+    if (counted[0] != 0) {
         CALLGRIND_ZERO_STATS;
         CALLGRIND_TOGGLE_COLLECT;
     } else {
@@ -60,7 +59,7 @@ void peers_begin(void) {
 }
 
 int64_t peers_end(void) {
-    if (counted == NULL)
+    if (counted[0] == 0)
         return thread_time() - began;
     CALLGRIND_TOGGLE_COLLECT;
     CALLGRIND_DUMP_STATS_AT(counted);
@@ -140,4 +139,86 @@ int64_t cbflib_pack(size_t element_size, int element_sign, void *pixels, size_t 
 /* Where the octets are that cbflib_pack wrote last. */
 const char *cbflib_packed(void) {
     return packed_to->characters_base;
+}
+
+const char *cbflib_version(void) {
+    return CBF_API_VERSION;
+}
+
+/* Ours: files. Every frame of a file of that many sections, the next one `stride` pixels after the one before. */
+int64_t ours_frames(unpack_call *call, const uint8_t *file, size_t file_len, size_t sections, int64_t *pixels,
+                    size_t each, size_t stride) {
+    int right = 1;
+    peers_begin();
+    for (size_t section = 1; section <= sections; section++)
+        right &= call(file, file_len, section, pixels + (section - 1) * stride, each) == each;
+    int64_t took = peers_end();
+    return right ? took : -1;
+}
+
+int64_t ours_replace(replace_call *call, const uint8_t *file, size_t file_len, const int64_t *frame, size_t count,
+                     uint8_t *out, size_t room, size_t *size) {
+    peers_begin();
+    uint64_t word = call(file, file_len, 1, frame, count, out, room);
+    int64_t took = peers_end();
+    *size = (uint32_t)word;
+    return word >> 32 == 0 ? took : -1;
+}
+
+/* CBFlib: files. No digest is looked at. A file is read from memory, or by its path where there is one. */
+
+static int cbflib_read(cbf_handle handle, const char *path, const uint8_t *file, size_t file_len) {
+    if (path == NULL)
+        return cbf_read_buffered_file(handle, NULL, MSG_NODIGEST, (const char *)file, file_len);
+    FILE *stream = fopen(path, "rb");
+    return stream == NULL ? CBF_FILEOPEN : cbf_read_file(handle, stream, MSG_NODIGEST);
+}
+
+/* Goes to the binary section of a data block. */
+static int cbflib_find(cbf_handle handle, unsigned block) {
+    return cbf_select_datablock(handle, block) | cbf_find_category(handle, "array_data") |
+           cbf_find_column(handle, "data") | cbf_select_row(handle, 0);
+}
+
+/* Freeing the handle is not measured. */
+int64_t cbflib_frames(const char *path, const uint8_t *file, size_t file_len, size_t sections, int32_t *pixels,
+                      size_t each, size_t stride) {
+    cbf_handle handle;
+    int error = 0, id = 0;
+    unsigned blocks = 0;
+    peers_begin();
+    error |= cbf_make_handle(&handle);
+    error |= cbflib_read(handle, path, file, file_len);
+    error |= cbf_count_datablocks(handle, &blocks);
+    for (unsigned block = 0; error == 0 && block < blocks; block++) {
+        size_t got = 0;
+        error |= cbflib_find(handle, block);
+        error |= cbf_get_integerarray(handle, &id, pixels + block * stride, sizeof(int32_t), 1, each, &got);
+        error |= got != each;
+    }
+    int64_t took = peers_end();
+    cbf_free_handle(handle);
+    return error == 0 && blocks == sections ? took : -1;
+}
+
+/* The file was read before, and is not measured; setting the frame and writing the file is. CBFlib always makes an MD5. */
+int64_t cbflib_replace(const uint8_t *file, size_t file_len, int32_t *frame, size_t width, size_t height, uint8_t *out,
+                       size_t room, size_t *size) {
+    cbf_handle handle;
+    int error = cbf_make_handle(&handle);
+    error |= cbflib_read(handle, NULL, file, file_len);
+    error |= cbflib_find(handle, 0);
+    FILE *stream = fmemopen(out, room, "wb");
+    if (error != 0 || stream == NULL)
+        return -1;
+    peers_begin();
+    error |= cbf_set_integerarray_wdims(handle, CBF_BYTE_OFFSET, 1, frame, sizeof(int32_t), 1, width * height,
+                                        "little_endian", width, height, 0, 0);
+    error |= cbf_write_file(handle, stream, 0, CBF, MIME_HEADERS | MSG_NODIGEST, ENC_NONE);
+    error |= fflush(stream);
+    int64_t took = peers_end();
+    *size = (size_t)ftell(stream);
+    cbf_free_handle(handle);
+    fclose(stream);
+    return error == 0 ? took : -1;
 }
