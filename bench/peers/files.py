@@ -35,8 +35,8 @@ def section(number, shape, octets, text):
 class File:
     """A file of detector frames, each another, with what is in them and memory for one of them."""
 
-    def __init__(self, programs, shape, sections, text):
-        self.shape, self.sections, self.each = shape, sections, shape[0] * shape[1]
+    def __init__(self, programs, shape, sections, text, path):
+        self.shape, self.sections, self.each, self.path = shape, sections, shape[0] * shape[1], path
         frame = frames.frame("detector", "s32", shape).ravel()
         self.pixels = [numpy.roll(frame, 17 * number) for number in range(sections)]
         room = numpy.ones(15 * self.each, numpy.uint8)
@@ -44,6 +44,8 @@ class File:
         for number, pixels in enumerate(self.pixels):
             parts.append(section(number + 1, shape, packed(programs, S32, pixels, room), text))
         self.bytes = b"".join(parts)
+        with open(path, "wb") as stream:
+            stream.write(self.bytes)
         self.pixels = numpy.concatenate(self.pixels).astype(numpy.int32)
         self.wide, self.narrow = numpy.ones(self.each, numpy.int64), numpy.ones(self.each, numpy.int32)
 
@@ -54,7 +56,7 @@ class File:
 
 
 def frame_calls(programs, file):
-    """Every frame to the same memory, which is kept from call to call."""
+    """Every frame to the same memory, which is kept from call to call. CBFlib reads from memory, or by the path."""
     driver = programs.driver
     length, sections, each = size(len(file.bytes)), size(file.sections), size(file.each)
 
@@ -62,13 +64,16 @@ def frame_calls(programs, file):
         return lambda pixels, stride: driver.ours_frames(build.cbf_unpack, file.bytes, length, sections,
                                                          pointer(pixels), each, size(stride))
 
-    def cbflib(pixels, stride):
-        return driver.cbflib_frames(None, file.bytes, length, sections, pointer(pixels), each, size(stride))
+    def cbflib(path):
+        return lambda pixels, stride: driver.cbflib_frames(path, file.bytes, length, sections, pointer(pixels), each,
+                                                           size(stride))
 
     for index, build in enumerate(programs.ours):
         yield Call(index, "", lambda run=ours(build): run(file.wide, 0),
                    lambda run=ours(build): file.same(run, numpy.int64), True)
-    yield Call("CBFlib", "", lambda: cbflib(file.narrow, 0), lambda: file.same(cbflib, numpy.int32), True)
+    for name, path in (("memory", None), ("path", file.path.encode())):
+        yield Call("CBFlib", name, lambda run=cbflib(path): run(file.narrow, 0),
+                   lambda run=cbflib(path): file.same(run, numpy.int32), True)
 
 
 def replace_calls(programs, file, scratch):
@@ -109,20 +114,14 @@ def replace_calls(programs, file, scratch):
     yield python_call(programs, "fabio", "write", lambda: image.write(path), same_written)
 
 
-def content(path):
-    with open(path, "rb") as stream:
-        return stream.read()
-
-
-def fresh_calls(programs, file, scratch):
+def fresh_calls(programs, file):
     """A file by its path to a new array of int32."""
-    path = os.path.join(scratch, "frame.cbf")
-    with open(path, "wb") as stream:
-        stream.write(file.bytes)
+    path = file.path
 
     def ours(build):
         def read():
-            data = content(path)
+            with open(path, "rb") as stream:
+                data = stream.read()
             pixels = numpy.empty(len(data), numpy.int64)
             word = build.cbf_unpack(data, size(len(data)), size(1), pointer(pixels), size(pixels.size))
             if word >> 32:
@@ -147,13 +146,16 @@ def fresh_calls(programs, file, scratch):
 
 
 def rows(programs, scratch):
-    large = File(programs, frames.LARGE, 1, False)
+    def made(name, shape, sections, text):
+        return File(programs, shape, sections, text, os.path.join(scratch, name))
+
+    large = made("large.cbf", frames.LARGE, 1, False)
     yield Row("6-megapixel file to kept memory", 1, frame_calls(programs, large), 0.2)
     yield Row("edited 6-megapixel frame back to a file", 1, replace_calls(programs, large, scratch), 0.2)
-    yield Row("6-megapixel file to a fresh int32 array", 1, fresh_calls(programs, large, scratch), 0.2)
-    text = File(programs, frames.LARGE, 1, True)
+    yield Row("6-megapixel file to a fresh int32 array", 1, fresh_calls(programs, large), 0.2)
+    text = made("text.cbf", frames.LARGE, 1, True)
     yield Row("6-megapixel BASE64 file to kept memory", 1, frame_calls(programs, text), 0.1)
-    small = File(programs, (10, 10), 512, False)
+    small = made("small.cbf", (10, 10), 512, False)
     yield Row("every frame of 512 BINARY sections of 100 pixels", 1, frame_calls(programs, small), 0.1)
-    many = File(programs, frames.SMALL, 128, True)
+    many = made("many.cbf", frames.SMALL, 128, True)
     yield Row("every frame of 128 BASE64 sections of 301,453 pixels", 1, frame_calls(programs, many), 0.02, False)

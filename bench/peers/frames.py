@@ -31,7 +31,7 @@ def noise(shape, random):
 
 
 def strong(shape, random):
-    """Poisson about a smooth background of mean 200; one pixel in 20 stands in a peak of 3 × 3, of height e^5 to e^9."""
+    """Poisson about a smooth background of mean 200; one pixel in 20 is in a peak of 3 × 3 (heights e^5 to e^9)."""
     rows, columns = numpy.indices(shape)
     background = 200 + 40 * numpy.sin(6 * rows / shape[0]) * numpy.cos(6 * columns / shape[1])
     peaks = int(0.05 * rows.size / 9)

@@ -35,7 +35,7 @@ class Programs:
 
 
 class Call:
-    """One program's way to do a job. `run` makes one call and returns its nanoseconds, -1 for a call that failed; `check`
+    """One program's way to do a job. `run` makes one call and returns its nanoseconds, -1 for one that failed. `check`
     says whether what the last call made is right, or makes a call of its own. `column` is the program: the number of a
     build of ours, or a peer."""
 

@@ -1,11 +1,11 @@
 /* One call of each program, measured: our library's and CBFlib's. fabio's calls are made in peers.py.
  *
- * Our functions come as pointers, for two reasons: several builds of our library can be measured in one process, each a
- * shared object of its own, and include/cbf.h cannot be included beside CBFlib's cbf.h (same name, same guard CBF_H). The
- * types of the pointers below are those of include/cbf.h.
+ * Our functions come as pointers, for two reasons: several builds of our library can be measured in one process, each
+ * a shared object of its own; and include/cbf.h cannot be included beside CBFlib's cbf.h, which has the same name and
+ * the same guard, CBF_H. The types of the pointers below are those of include/cbf.h.
  *
- * Each function here returns the nanoseconds of the one call that it measures, or -1 where the call did not do its work.
- * Memory is lent by the caller and was touched before.
+ * Each function here returns the nanoseconds of what it measures, or -1 where that did not do its work. Memory is lent
+ * by the caller and was touched before.
  */
 #define _GNU_SOURCE
 #include <stdint.h>
@@ -201,7 +201,8 @@ int64_t cbflib_frames(const char *path, const uint8_t *file, size_t file_len, si
     return error == 0 && blocks == sections ? took : -1;
 }
 
-/* The file was read before, and is not measured; setting the frame and writing the file is. CBFlib always makes an MD5. */
+/* The file was read before, which is not measured; setting the frame and writing the file is. CBFlib makes an MD5 of
+ * the octets, whatever it is told. */
 int64_t cbflib_replace(const uint8_t *file, size_t file_len, int32_t *frame, size_t width, size_t height, uint8_t *out,
                        size_t room, size_t *size) {
     cbf_handle handle;

@@ -23,6 +23,7 @@ def arguments():
     parser.add_argument("--rounds", type=int, default=100)
     for name in ("--quick", "--large", "--no-files", "--no-instructions", "--counting"):
         parser.add_argument(name, action="store_true")
+    parser.add_argument("--said", required=True)
     parser.add_argument("--scratch", required=True)
     parser.add_argument("driver")
     parser.add_argument("ours", nargs="+")
@@ -142,8 +143,8 @@ def main():
     measure.measure(pixel_rows + file_rows, rounds)
     if not asked.no_instructions:
         count(pixel_rows, asked)
-    print(f"{programs.version()}, fabio {fabio.version}; {processor()}; frames of {shape[1]} × {shape[0]}; "
-          f"{rounds} rounds.\n")
+    print(f"`{asked.said}`: {programs.version()}, fabio {fabio.version}; {processor()}; "
+          f"frames of {shape[1]} × {shape[0]}; {rounds} rounds.\n")
     print_pixels(pixel_rows, len(asked.ours))
     if file_rows:
         print_files(file_rows, len(asked.ours))

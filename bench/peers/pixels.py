@@ -128,7 +128,7 @@ def rows(programs, shape):
         each = frame.octets.size / frame.count
         yield Row(f"unpack {frame.kind} {frame.name} ({each:.2f})", frame.count, unpack_calls(programs, frame))
     for frame in made:
-        for octets, said in ((15 * frame.count, "15"), (frame.octets.size, "exact")):
+        for octets, said in ((15 * frame.count, "room for 15"), (frame.octets.size, "exact room")):
             yield Row(f"pack {frame.kind} {frame.name}, {said}", frame.count, pack_calls(programs, frame, octets))
     first = made[0]
     for said, to, pixels in (("s32", room.own["s32"], first.own), ("int64", room.wide, first.wide)):
