@@ -89,9 +89,10 @@ def head(first, builds):
 def line(row, builds, shown):
     ours = [row.fastest(index) for index in range(builds)]
     peers = [row.fastest(peer) for peer in PEERS]
-    best = min(filter(None, peers), key=lambda call: call.best)
+    best = min(filter(None, peers), key=lambda call: call.best, default=None)
     cells = [row.name, *("-" if call is None else shown(row, call) for call in ours + peers)]
-    cells += [f"{best.column} {best.name}".strip(), *(f"{call.best / best.best:.2f}" for call in ours)]
+    cells.append("-" if best is None else f"{best.column} {best.name}".strip())
+    cells += ["-" if best is None else f"{call.best / best.best:.2f}" for call in ours]
     print("| " + " | ".join(cells) + " |")
 
 
@@ -111,9 +112,7 @@ def print_pixels(rows, builds):
             line(row, builds, by_pixel)
     copies = [row for row in rows if row.name.startswith("memcpy")]
     print("\n" + "; ".join(f"{row.name}: {by_pixel(row, row.calls[0])}" for row in copies) + ".")
-    wrong = sorted({f"{call.column} {call.name} in {row.name.split(',')[0]}" for row in rows for call in row.wrong})
-    if wrong:
-        print("\nLeft out, since it does not give the frame or its octets: " + "; ".join(wrong) + ".")
+    print_wrong(rows)
 
 
 def print_files(rows, builds):
@@ -121,6 +120,13 @@ def print_files(rows, builds):
     head("ms", builds)
     for row in rows:
         line(row, builds, milliseconds)
+    print_wrong(rows)
+
+
+def print_wrong(rows):
+    wrong = sorted({f"{call.column} {call.name} in {row.name.split(',')[0]}" for row in rows for call in row.wrong})
+    if wrong:
+        print("\nLeft out, since it does not give the frame or its octets: " + "; ".join(wrong) + ".")
 
 
 def processor():
