@@ -166,6 +166,12 @@ pub record Passed (top : ℕ) (os : List ℕ) (biased i n biased′ j : ℕ) : T
   pub passed : (biased′ ≡ 0 → ⊥) → Between top biased′ × Passes top os biased i n biased′ j
   pub inside : j ≤ length os
 
+-- a turn of the first pass: some of the pixels that are left
+pub record Turned (top : ℕ) (os : List ℕ) (biased i left n biased′ j : ℕ) : Type 0 where
+  pub some : 0 < n
+  pub few : n ≤ left
+  pub passed : Passed top os biased i n biased′ j
+
 -- The biased pixels are summed up without a test, and all is the bitwise or of them: one of the n pixels was outside the
 -- type exactly when all is above top, as the type's size is a power of two.
 pub record Summed (top : ℕ) (os : List ℕ) (biased i n biased′ all j : ℕ) : Type 0 where

@@ -9,6 +9,7 @@ mod near;
 mod octets;
 mod plain;
 mod range;
+mod turn;
 mod uncompressed;
 mod validate;
 mod window;

@@ -3,10 +3,10 @@ use crate::ElementType;
 use crate::Last;
 use crate::Part;
 use crate::difference;
-use crate::mixed;
 use crate::near;
 use crate::octets;
 use crate::plain;
+use crate::turn;
 ghost use mathlib.Core.Path.{_≡_};
 ghost use mathlib.Core.Bool.{true};
 ghost use Prim.Native.Nat.{ℕ, _+_, _%_, _<_, _≤_, _^_};
@@ -188,7 +188,7 @@ fn is_far(biased: u64, top: u64) -> bool
 }
 
 // The same, where the run is at most 4,096 octets long.
-fn pass_plain(octets: &[u8], i: usize, n: usize, biased: u64, top: u64) -> u64
+pub fn pass_plain(octets: &[u8], i: usize, n: usize, biased: u64, top: u64) -> u64
     requires { ⌜ Top top × Between top biased × (i + n ≤ length (now octets)) × Plain (now octets) i n × (n % 32 ≡ 0) × (n ≤ 4096) ⌝ }
     ensures { λ r. ⌜ Passed top (now (octets .entry)) biased i n r (i + n) ⌝ }
 {
@@ -289,7 +289,7 @@ fn pass_each(octets: &[u8], i: usize, biased: u64, top: u64, n: usize) -> State
 }
 
 // n pixels, at most 32.
-fn pass_few(octets: &[u8], i: usize, biased: u64, top: u64, n: usize) -> State
+pub fn pass_few(octets: &[u8], i: usize, biased: u64, top: u64, n: usize) -> State
     requires { ⌜ Top top × Between top biased × (i ≤ length (now octets)) × (n ≤ 32) ⌝ }
     ensures { λ r. ⌜ Passed top (now (octets .entry)) biased i n (r .biased) (r .next) ⌝ }
 {
@@ -332,89 +332,6 @@ fn passed(kind: ElementType, s: State, k: usize) -> Part
     }
 }
 
-// Where a turn of the first pass leads: the last biased pixel, 0 where pixels do not unpack, where the next difference starts, how
-// many pixels, and the way of the next turn.
-pub struct Turn {
-    pub biased: u64,
-    pub next: usize,
-    pub count: usize,
-    pub way: u64,
-}
-
-// The way after mixed octets: they are tried first where there were four escapes and more.
-fn after_mixed(count: usize) -> u64 {
-    if count < 184 { 0 } else { 1 }
-}
-
-// The way after singles: mixed octets are tried again after eight parts.
-fn later(way: u64) -> u64 {
-    if way < 2 { 9 } else { way - 1 }
-}
-
-fn pass_part(octets: &[u8], i: usize, biased: u64, top: u64, left: usize, way: u64) -> Turn
-    requires { ⌜ Top top × Between top biased × (i ≤ length (now octets)) × (0 < left) ⌝ }
-    ensures { λ r. ⌜ (0 < r .count) × (r .count ≤ left) × Passed top (now (octets .entry)) biased i (r .count) (r .biased) (r .next) ⌝ }
-{
-    let n = plain::part(left);
-    let s = pass_few(octets, i, biased, top, n);
-    Turn {
-        biased: s.biased,
-        next: s.next,
-        count: n,
-        way: later(way),
-    }
-}
-
-// The pixels of one turn.
-fn pass_turn(octets: &[u8], i: usize, biased: u64, top: u64, left: usize, way: u64) -> Turn
-    requires { ⌜ Top top × Between top biased × (i ≤ length (now octets)) × (0 < left) ⌝ }
-    ensures { λ r. ⌜ (0 < r .count) × (r .count ≤ left) × Passed top (now (octets .entry)) biased i (r .count) (r .biased) (r .next) ⌝ }
-{
-    if 0 < way {
-        let n = plain::plain_run(octets, i, left);
-        if 0 < n {
-            let last = pass_plain(octets, i, n, biased, top);
-            return Turn {
-                biased: last,
-                next: i + n,
-                count: n,
-                way: way,
-            };
-        }
-    }
-    if mixed_fits(octets.len(), i, top, left, way) {
-        let m = mixed::pass_mixed(octets, i, biased, top);
-        if 0 < m.count {
-            return Turn {
-                biased: m.biased,
-                next: m.next,
-                count: m.count,
-                way: after_mixed(m.count),
-            };
-        }
-    }
-    pass_part(octets, i, biased, top, left, way)
-}
-
-fn mixed_fits(len: usize, i: usize, top: u64, left: usize, way: u64) -> bool
-    requires { ⌜ i ≤ len ⌝ }
-    ensures { λ r. ⌜ (r ≡ true → (biasedLeast + 65535 ≤ top) × (1 ≤ i) × (i + 192 ≤ len) × (192 ≤ left)) ⌝ }
-{
-    if 1 < way {
-        return false;
-    }
-    if i < 1 {
-        return false;
-    }
-    if top < 1099511627776 + 65535 {
-        return false;
-    }
-    if left < 192 {
-        return false;
-    }
-    192 <= len - i
-}
-
 // Whether octets unpack to count pixels after s: those that are there, and all of them where the octets have ended.
 pub fn validate_part(kind: ElementType, octets: &[u8], ended: bool, s: Last, count: usize) -> Part
     requires { ⌜ (within (least kind) (greatest kind) (s .pixel) ≡ true) × (s .next ≤ length (now octets)) ⌝ }
@@ -432,7 +349,7 @@ pub fn validate_part(kind: ElementType, octets: &[u8], ended: bool, s: Last, cou
         if plain::waits(ended, octets.len() - i) {
             return passed(kind, at, k);
         }
-        let t = pass_turn(octets, i, at.biased, top, count - k, way);
+        let t = turn::pass_turn(octets, i, at.biased, top, count - k, way);
         if t.biased == 0 {
             return Part {
                 good: false,

@@ -78,17 +78,17 @@ returns-2 c =
     valid-not (a .kind) (a .octets .now) (a .ended) (a .s .pixel) (a .s .next) (a .count) (top .result) (start .result) (top .ensures) (start-is (c .before .before .before .before .before .before .before)) _
     (l .k + t .result .count)
     (λ tail b. passes-fails (top .result) (a .octets .now) (start .result) (a .s .next) (l .k) (t .result .count) (l .at .biased) (l .at .next) tail (l .inv .3)
-    (t .ensures .2 .failed (c .if2 .taken) tail (enough (a .octets .now) tail (l .at .next) b w)))
-    (omega (arith, t .ensures .1)) refl (omega arith) (c .before .before .before .before .before .before .before .before .before .before .before .pre .1) (omega arith)
+    (t .ensures .passed .failed (c .if2 .taken) tail (enough (a .octets .now) tail (l .at .next) b w)))
+    (omega (arith, t .ensures .few)) refl (omega arith) (c .before .before .before .before .before .before .before .before .before .before .before .pre .1) (omega arith)
 
 add-k : tie.Need-add-k Inv-loop μ-loop
 add-k c =
     let t = c .before .before .before .pass-turn in
     let h = c .before .before .before .before .before .before .before .loop .inv .0 in
-    omega (arith, t .ensures .1, c .before .before .before .before .before .before .before .before .before .before .before .before .fits .count)
+    omega (arith, t .ensures .few, c .before .before .before .before .before .before .before .before .before .before .before .before .fits .count)
 
 loop-less : tie.Need-loop-less Inv-loop μ-loop
-loop-less c = let t = c .before .before .before .pass-turn in let h = c .before .before .before .before .before .before .loop-test .taken in omega (arith, t .ensures .0, t .ensures .1)
+loop-less c = let t = c .before .before .before .pass-turn in let h = c .before .before .before .before .before .before .loop-test .taken in omega (arith, t .ensures .some, t .ensures .few)
 
 loop-again : tie.Need-loop-again Inv-loop μ-loop
 loop-again c =
@@ -98,12 +98,12 @@ loop-again c =
     let l = c .before .before .before .before .before .before .before .loop in
     let t = c .before .before .before .pass-turn in
     let h = l .inv .0 in
-    let P = t .ensures .2 .passed (c .before .if2 .left) in (
-      omega (arith, t .ensures .1),
-      t .ensures .2 .inside,
+    let P = t .ensures .passed .passed (c .before .if2 .left) in (
+      omega (arith, t .ensures .few),
+      t .ensures .passed .inside,
       P .0,
       passes-passes (top .result) (a .octets .now) (start .result) (a .s .next) (l .k) (t .result .count) (l .at .biased) (l .at .next) (t .result .biased) (t .result .next) (l .inv .3) (P .1),
-      λ z. let y : ⊥ = omega (arith, t .ensures .0) in absurd y,
+      λ z. let y : ⊥ = omega (arith, t .ensures .some) in absurd y,
     )
 
 passed-requires-2 : tie.Need-passed-requires-2 Inv-loop μ-loop
