@@ -23,8 +23,11 @@ fn after_mixed(count: usize) -> u64 {
     if count < 184 { 0 } else { 1 }
 }
 
-// The way after singles: mixed octets are tried again after eight turns.
+// The way after singles: mixed octets are tried again after this turn where they were met before it, else after eight.
 fn later(way: u64) -> u64 {
+    if way < 1 {
+        return 2;
+    }
     if way < 2 { 9 } else { way - 1 }
 }
 
