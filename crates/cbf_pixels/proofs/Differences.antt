@@ -33,7 +33,7 @@ pub signed-high : (k n : ℕ) → half k ≤ n → signed k n ≡ negsuc (256 ^ 
 unfolding signed
 signed-high k n h = rw (le-ltb n (half k) h)
 
-two-halves : (k : ℕ) → 0 < half k → 256 ^ k ≡ 2 * half k
+pub two-halves : (k : ℕ) → 0 < half k → 256 ^ k ≡ 2 * half k
 unfolding half
 two-halves zero h = omega arith
 two-halves (suc k) h = omega arith

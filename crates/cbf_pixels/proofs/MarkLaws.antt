@@ -1,40 +1,20 @@
--- What mixed.rt writes: arrays filled from 16 on, marks, and what octets add by them. Assumes nothing.
-use Prim.Native.Nat.{ℕ, _+_, _*_, _-_, _<_, _≤_}
+-- Marks of octets, and what octets add by them. Assumes nothing.
+use Prim.Native.Nat.{ℕ, _+_, _*_, _-_, _<_}
 use native.Mathlib.Omega.{arith}
 use native.Mathlib.Numerals.{add-one}
-use mathlib.Core.Path.{_≡_, refl, sym, ap, ap₂, _∙_, subst}
+use mathlib.Core.Path.{_≡_, refl, ap, ap₂, _∙_, subst}
 use mathlib.Core.List.{List}
 use mathlib.Core.Bool.{Bool, true, false}
 use mathlib.Core.Logic.{inl, inr}
 use lib.Bits.{bitAnd, bitOr, bitXor, and-mask, and-zero-r, or-zero-r}
 use lib.Dec.{ltb}
-use lib.ListN.{length, getD, set, length-set, replicate, getD-replicate}
-use lib.Seq.{getD-set-same, getD-set-other}
+use lib.ListN.{getD, replicate, getD-replicate}
 use borrow.Author.Tests.{ltb-true, ltb-false}
 use borrow.Author.Count.{below-more}
 use Rattle.cbf_pixels.specs.Octets.{pick}
-use Rattle.cbf_pixels.specs.Escapes.{Written, markAt, IsMark, Marked, endOf, endsTo, choose, signOf, joinedAt, addedAt, Addends}
+use Rattle.cbf_pixels.specs.Summing.{Written}
+use Rattle.cbf_pixels.specs.Escapes.{markAt, IsMark, Marked, endOf, endsTo, choose, signOf, joinedAt, addedAt, Addends}
 use Rattle.cbf_pixels.proofs.Bitwise.{or-left, or-right}
-
--- ---- arrays filled from 16 on
-
-pub written-none : (f : ℕ → ℕ) (size : ℕ) (xs : List ℕ) → length xs ≡ size → Written f 0 size xs xs
-written-none f size xs l = record { is = λ j h. let y : ⊥ = omega arith in absurd y; same = λ k h. refl; long = l }
-
-pub written-more : (f : ℕ → ℕ) (j size : ℕ) (before xs : List ℕ) (x : ℕ) → Written f j size before xs → 16 + j < size → x ≡ f j
-    → Written f (j + 1) size before (set xs (16 + j) x)
-written-more f j size before xs x W l e =
-    record {
-      is = below-more (λ (m : ℕ). getD (set xs (16 + j) x) (16 + m) 0 ≡ f m) j
-          (λ m h. getD-set-other xs (16 + j) (16 + m) x 0 (λ q. omega arith) ∙ W .is m h)
-          (getD-set-same xs (16 + j) x 0 (omega (arith, W .long)) ∙ e);
-      same = λ k h. getD-set-other xs (16 + j) k x 0 (λ q. omega arith) ∙ W .same k h;
-      long = length-set xs (16 + j) x ∙ W .long;
-    }
-
--- the first n of them
-pub written-first : {f : ℕ → ℕ} {j size : ℕ} {before xs : List ℕ} (n : ℕ) → Written f j size before xs → n ≤ j → Written f n size before xs
-written-first n W l = record { is = λ k h. W .is k (omega arith); same = W .same; long = W .long }
 
 -- ---- marks
 

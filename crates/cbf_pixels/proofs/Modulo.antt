@@ -1,64 +1,130 @@
--- Plain octets near the lower end of a type: sums of octets modulo 256, and the pixels that they stand for. Assumes nothing.
+-- Arrays filled from 16 on, and sums modulo a number that stand in them. Assumes nothing.
 use Prim.Native.Nat.{ℕ, zero, suc, _+_, _*_, _-_, _%_, _^_, _<_, _≤_}
 use native.Mathlib.Omega.{arith}
 use native.Mathlib.Numerals.{add-one}
-use mathlib.Core.Path.{_≡_, refl, sym, ap, ap₂, _∙_, subst}
+use native.Mathlib.Nat.{mod-eq-of-lt, mod-eq-sub-mod, mod-add-mod, add-mod-mod}
+use mathlib.Core.Path.{_≡_, refl, sym, ap, _∙_, subst}
 use mathlib.Core.List.{List}
 use mathlib.Core.Bool.{Bool, true, false}
 use lib.Bits.{bitOr}
 use lib.Dec.{ltb}
 use lib.ListN.{length, getD, set, length-set, replicate, getD-replicate}
 use lib.Seq.{getD-set-same, getD-set-other}
-use lib.IntN.{ℤ, pos, negsuc, _+ℤ_}
+use lib.IntN.{ℤ, pos, _+ℤ_}
 use borrow.Author.Tests.{ltb-true, ltb-false}
 use borrow.Author.Count.{below-more}
 use Rattle.cbf_pixels.specs.Octets.{half, signed}
-use Rattle.cbf_pixels.specs.Steps.{Plain, biasedLeast, Top, Between, Passes, total, fourTo, Fours, Windows, Levels, Stays}
+use Rattle.cbf_pixels.specs.Summing.{Written, fourAt, backAt, total, Window, Windows, Levels}
 use Rattle.cbf_pixels.proofs.Bitwise.{or-left, or-right}
 use Rattle.cbf_pixels.proofs.Integers.{subℕ-pos}
-use Rattle.cbf_pixels.proofs.Differences.{signed-low, signed-high}
-use Rattle.cbf_pixels.proofs.PlainOctets.{plain-took}
-use Rattle.cbf_pixels.proofs.Passing.{passes-none, passes-passes, step-in}
+use Rattle.cbf_pixels.proofs.Differences.{signed-low, signed-high, two-halves}
 
--- ---- sums of octets
+-- ---- arrays filled from 16 on
+
+pub written-none : (f : ℕ → ℕ) (size : ℕ) (xs : List ℕ) → length xs ≡ size → Written f 0 size xs xs
+written-none f size xs l = record { is = λ j h. let y : ⊥ = omega arith in absurd y; same = λ k h. refl; long = l }
+
+pub written-more : (f : ℕ → ℕ) (j size : ℕ) (before xs : List ℕ) (x : ℕ) → Written f j size before xs → 16 + j < size → x ≡ f j
+    → Written f (j + 1) size before (set xs (16 + j) x)
+written-more f j size before xs x W l e =
+    record {
+      is = below-more (λ (m : ℕ). getD (set xs (16 + j) x) (16 + m) 0 ≡ f m) j
+          (λ m h. getD-set-other xs (16 + j) (16 + m) x 0 (λ q. omega arith) ∙ W .is m h)
+          (getD-set-same xs (16 + j) x 0 (omega (arith, W .long)) ∙ e);
+      same = λ k h. getD-set-other xs (16 + j) k x 0 (λ q. omega arith) ∙ W .same k h;
+      long = length-set xs (16 + j) x ∙ W .long;
+    }
+
+-- the first n of them
+pub written-first : {f : ℕ → ℕ} {j size : ℕ} {before xs : List ℕ} (n : ℕ) → Written f j size before xs → n ≤ j → Written f n size before xs
+written-first n W l = record { is = λ k h. W .is k (omega arith); same = W .same; long = W .long }
+
+-- the bitwise or is at least each of them
+pub under-more : (xs : List ℕ) (j all x : ℕ) → 16 + j < length xs → ((k : ℕ) → k < j → getD xs (16 + k) 0 ≤ all)
+    → (k : ℕ) → k < j + 1 → getD (set xs (16 + j) x) (16 + k) 0 ≤ bitOr all x
+under-more xs j all x l u =
+    below-more (λ (k : ℕ). getD (set xs (16 + j) x) (16 + k) 0 ≤ bitOr all x) j
+    (λ k h. let e = getD-set-other xs (16 + j) (16 + k) x 0 (λ q. omega arith) in omega (arith, u k h, or-left all x))
+    (let e = getD-set-same xs (16 + j) x 0 l in omega (arith, or-right all x))
+
+-- ---- sums
+
+total-none : (os : List ℕ) (i : ℕ) → total os i 0 ≡ 0
+unfolding total
+total-none os i = refl
 
 total-more : (os : List ℕ) (i n : ℕ) → total os i (n + 1) ≡ total os i n + getD os (i + n) 0
 unfolding total
 total-more os i n = ap (total os i) (add-one n)
 
-total-four : (os : List ℕ) (i m : ℕ) → total os i (m + 4) ≡ total os i m + getD os (i + m) 0 + getD os (i + (m + 1)) 0 + getD os (i + (m + 2)) 0 + getD os (i + (m + 3)) 0
-total-four os i m =
-    let e4 : m + 4 ≡ m + 3 + 1 = omega arith in
-    let e3 : m + 3 ≡ m + 2 + 1 = omega arith in
-    let e2 : m + 2 ≡ m + 1 + 1 = omega arith in
-    let a = total-more os i m in
-    let b = ap (total os i) e2 ∙ total-more os i (m + 1) in
-    let c = ap (total os i) e3 ∙ total-more os i (m + 2) in
-    let d = ap (total os i) e4 ∙ total-more os i (m + 3) in
-    omega arith
+-- ---- windows
 
-pub levels-start : (os : List ℕ) (i c n : ℕ) → c < 128 → 16 ≤ n → Levels os i c 0 (replicate n c)
-unfolding Levels total
-levels-start os i c n h l k b =
-    let e : 0 ≡ k - 15 = omega arith in
-    getD-replicate n k c 0 (omega arith) ∙ (let m : c ≡ (c + 0) % 256 = omega arith in m) ∙ ap (λ (j : ℕ). (c + total os i j) % 256) e
+module _ (m : ℕ) (os : List ℕ) (i : ℕ) where
+  window-exact : (a b s : ℕ) → s + total os i (a - 15) ≡ total os i (b - 15) → Window m os i a b s
+  window-exact a b s e = record { sum = ap (λ (t : ℕ). t % m) e }
 
--- ---- sums of four
+  pub window-mod : {a b s x : ℕ} → Window m os i a b s → x ≡ s % m → Window m os i a b x
+  window-mod {a} {b} {s} {x} W e =
+      record { sum = ap (λ (u : ℕ). (u + total os i (a - 15)) % m) e ∙ mod-add-mod s m (total os i (a - 15)) ∙ W .sum }
 
-pub fours-none : (os : List ℕ) (i : ℕ) (sums : List ℕ) → length sums ≡ 1040 → Fours os i 0 sums sums
-fours-none os i sums l = record { four = λ j h. let y : ⊥ = omega arith in absurd y; same = λ k h. refl; long = l }
+  -- a window and the one behind it
+  window-join : {a b c s t : ℕ} → Window m os i a b s → Window m os i b c t → Window m os i a c (t + s)
+  window-join {a} {b} {c} {s} {t} S T =
+      let o = total os i (a - 15) in
+      let e : t + s + o ≡ t + (s + o) = omega arith in
+      record {
+        sum = ap (λ (u : ℕ). u % m) e ∙ sym (add-mod-mod t (s + o) m) ∙ ap (λ (u : ℕ). (t + u) % m) (S .sum) ∙ add-mod-mod t (total os i (b - 15)) m ∙ T .sum;
+      }
 
-pub fours-more : (os : List ℕ) (i j : ℕ) (before sums : List ℕ) (x : ℕ) → Fours os i j before sums → j < 1024 → x ≡ fourTo os (i + j) → Fours os i (j + 1) before (set sums (16 + j) x)
-fours-more os i j before sums x F l e =
-    record {
-      four = below-more (λ (m : ℕ). getD (set sums (16 + j) x) (16 + m) 0 ≡ fourTo os (i + m)) j
-          (λ m h. getD-set-other sums (16 + j) (16 + m) x 0 (λ q. omega arith) ∙ F .four m h) (getD-set-same sums (16 + j) x 0 (omega (arith, F .long)) ∙ e);
-      same = λ k h. getD-set-other sums (16 + j) k x 0 (λ q. omega arith) ∙ F .same k h;
-      long = length-set sums (16 + j) x ∙ F .long;
-    }
+  window-at : {w n : ℕ} {sums : List ℕ} → Windows m w os i n sums → (a b : ℕ) → a + w ≡ b → b < 16 + n → Window m os i a b (getD sums b 0)
+  window-at {w} {n} {sums} W a b e h =
+      let p : b - w ≡ a = omega arith in
+      subst (λ (k : ℕ). Window m os i k b (getD sums b 0)) p (W .window b h)
 
-module _ (os : List ℕ) (i n : ℕ) (before sums : List ℕ) (F : Fours os i n before sums) (zeros : (k : ℕ) → k < 16 → getD before k 0 ≡ 0) (three : 3 ≤ i)
-    (x y z : ℕ) (ex : x ≡ getD os i 0) (ey : y ≡ (getD os i 0 + getD os (i + 1) 0 + 0 + 0) % 256) (ez : z ≡ (getD os i 0 + getD os (i + 1) 0 + getD os (i + 2) 0 + 0) % 256) where
+  module _ (n : ℕ) (sums : List ℕ) (W : Windows m 4 os i n sums) (j : ℕ) (h : j < n) where
+    pub window-8 : Window m os i (8 + j) (16 + j) (getD sums (16 + j) 0 + getD sums (12 + j) 0)
+    window-8 = window-join (window-at W (8 + j) (12 + j) (omega arith) (omega arith)) (window-at W (12 + j) (16 + j) (omega arith) (omega arith))
+
+    pub window-16 : Window m os i j (16 + j) (getD sums (16 + j) 0 + getD sums (12 + j) 0 + getD sums (8 + j) 0 + getD sums (4 + j) 0)
+    window-16 =
+        window-join (window-at W j (4 + j) (omega arith) (omega arith)) (window-join (window-at W (4 + j) (8 + j) (omega arith) (omega arith)) window-8)
+
+  -- below 16 stands nothing
+  windows-by : (w n : ℕ) (sums : List ℕ) → ((k : ℕ) → k < 16 → getD sums k 0 ≡ 0)
+      → ((j : ℕ) → j < n → Window m os i (16 + j - w) (16 + j) (getD sums (16 + j) 0)) → Windows m w os i n sums
+  windows-by w n sums zeros f = record { window = λ k h. go k h (ltb k 16) refl }
+    where
+      go : (k : ℕ) → k < 16 + n → (c : Bool) → ltb k 16 ≡ c → Window m os i (k - w) k (getD sums k 0)
+      go k h true q =
+          let l = ltb-true k 16 q in
+          let e : k - w - 15 ≡ k - 15 = omega arith in
+          window-exact (k - w) k (getD sums k 0) (omega (arith, zeros k l, ap (total os i) e))
+      go k h false q =
+          let l = ltb-false k 16 q in
+          let e : 16 + (k - 16) ≡ k = omega arith in
+          subst (λ (b : ℕ). Window m os i (b - w) b (getD sums b 0)) e (f (k - 16) (omega arith))
+
+  -- sums of twice as many
+  pub windows-twice : (w n size : ℕ) (xs before ys : List ℕ) → w ≤ 8 → Windows m w os i n xs → ((k : ℕ) → k < 16 → getD before k 0 ≡ 0)
+      → Written (backAt m xs w) n size before ys → Windows m (w + w) os i n ys
+  windows-twice w n size xs before ys l X zeros W =
+      windows-by (w + w) n ys (λ k h. W .same k h ∙ zeros k h)
+      (λ j h. window-mod (window-join (window-at X (16 + j - (w + w)) (16 + j - w) (omega arith) (omega arith)) (window-at X (16 + j - w) (16 + j) (omega arith) (omega arith))) (W .is j h))
+
+-- the numbers from 16 on are themselves the sums of one
+pub windows-one : (m : ℕ) (ds : List ℕ) (n : ℕ) → ((k : ℕ) → k < 16 → getD ds k 0 ≡ 0) → Windows m 1 ds 16 n ds
+windows-one m ds n zeros = windows-by m ds 16 1 n ds zeros one
+  where
+    one : (j : ℕ) → j < n → Window m ds 16 (16 + j - 1) (16 + j) (getD ds (16 + j) 0)
+    one j h =
+        let e : 16 + j - 1 - 15 ≡ j = omega arith in
+        let f : 16 + j - 15 ≡ j + 1 = omega arith in
+        window-exact m ds 16 (16 + j - 1) (16 + j) (getD ds (16 + j) 0) (omega (arith, ap (total ds 16) e, ap (total ds 16) f, total-more ds 16 j))
+
+-- sums of four octets with those before i, and the first three without
+module _ (os : List ℕ) (i n : ℕ) (before sums : List ℕ) (F : Written (fourAt os i) n 1040 before sums) (zeros : (k : ℕ) → k < 16 → getD before k 0 ≡ 0)
+    (three : 3 ≤ i) (x y z : ℕ) (ex : x ≡ getD os i 0) (ey : y ≡ (getD os i 0 + getD os (i + 1) 0 + 0 + 0) % 256)
+    (ez : z ≡ (getD os i 0 + getD os (i + 1) 0 + getD os (i + 2) 0 + 0) % 256) where
   abbrev last : List ℕ
   last = set (set (set sums 16 x) 17 y) 18 z
 
@@ -66,189 +132,148 @@ module _ (os : List ℕ) (i n : ℕ) (before sums : List ℕ) (F : Fours os i n 
   apart k p q r =
       getD-set-other (set (set sums 16 x) 17 y) 18 k z 0 r ∙ getD-set-other (set sums 16 x) 17 k y 0 q ∙ getD-set-other sums 16 k x 0 p
 
-  -- the sum that stands at k, and the octets before and up to it
-  stands : (k a b g : ℕ) → k - 19 ≡ a → k - 15 ≡ b → getD last k 0 ≡ g → (g + total os i a) % 256 ≡ total os i b % 256 → (getD last k 0 + total os i (k - 19)) % 256 ≡ total os i (k - 15) % 256
-  stands k a b g ea eb eg e =
-      ap₂ (λ (u v : ℕ). (u + v) % 256) eg (ap (total os i) ea) ∙ e ∙ ap (λ (m : ℕ). total os i m % 256) (sym eb)
-
-  one : total os i 1 ≡ getD os i 0
-  unfolding total
-  one = let e : i + 0 ≡ i = omega arith in ap (λ (m : ℕ). 0 + getD os m 0) e ∙ omega arith
-
-  two : total os i 2 ≡ getD os i 0 + getD os (i + 1) 0
-  two = total-more os i 1 ∙ ap (λ (m : ℕ). m + getD os (i + 1) 0) one
-
-  third : total os i 3 ≡ getD os i 0 + getD os (i + 1) 0 + getD os (i + 2) 0
-  third = total-more os i 2 ∙ ap (λ (m : ℕ). m + getD os (i + 2) 0) two
-
-  none : total os i 0 ≡ 0
-  unfolding total
-  none = refl
-
   at-16 : getD last 16 0 ≡ x
   at-16 =
-      getD-set-other (set (set sums 16 x) 17 y) 18 16 z 0 (λ q. omega arith) ∙ getD-set-other (set sums 16 x) 17 16 y 0 (λ q. omega arith) ∙ getD-set-same sums 16 x 0 (omega (arith, F .long))
+      getD-set-other (set (set sums 16 x) 17 y) 18 16 z 0 (λ q. omega arith) ∙ getD-set-other (set sums 16 x) 17 16 y 0 (λ q. omega arith)
+      ∙ getD-set-same sums 16 x 0 (omega (arith, F .long))
 
   at-17 : getD last 17 0 ≡ y
   at-17 =
-      getD-set-other (set (set sums 16 x) 17 y) 18 17 z 0 (λ q. omega arith) ∙ getD-set-same (set sums 16 x) 17 y 0 (omega (arith, length-set sums 16 x, F .long))
+      getD-set-other (set (set sums 16 x) 17 y) 18 17 z 0 (λ q. omega arith)
+      ∙ getD-set-same (set sums 16 x) 17 y 0 (omega (arith, length-set sums 16 x, F .long))
 
   at-18 : getD last 18 0 ≡ z
   at-18 = getD-set-same (set (set sums 16 x) 17 y) 18 z 0 (omega (arith, length-set (set sums 16 x) 17 y, length-set sums 16 x, F .long))
 
-  further : (m : ℕ) → 19 + m < 16 + n → (getD last (19 + m) 0 + total os i (19 + m - 19)) % 256 ≡ total os i (19 + m - 15) % 256
-  further m h =
-      let e : 19 + m ≡ 16 + (m + 3) = omega arith in
-      let e1 : i + (m + 3) - 1 ≡ i + (m + 2) = omega arith in
-      let e2 : i + (m + 3) - 2 ≡ i + (m + 1) = omega arith in
-      let e3 : i + (m + 3) - 3 ≡ i + m = omega arith in
-      let g = apart (19 + m) (λ q. omega arith) (λ q. omega arith) (λ q. omega arith) ∙ ap (λ (k : ℕ). getD sums k 0) e ∙ F .four (m + 3) (omega arith) in
+  none : total os i 0 ≡ 0
+  none = total-none os i
+
+  one : total os i 1 ≡ getD os i 0
+  one = let e : i + 0 ≡ i = omega arith in omega (arith, total-more os i 0, ap (λ (k : ℕ). getD os k 0) e, none)
+
+  two : total os i 2 ≡ getD os i 0 + getD os (i + 1) 0
+  two = omega (arith, total-more os i 1, one)
+
+  third : total os i 3 ≡ getD os i 0 + getD os (i + 1) 0 + getD os (i + 2) 0
+  third = omega (arith, total-more os i 2, two)
+
+  total-four : (j : ℕ) → total os i (j + 4) ≡ total os i j + getD os (i + j) 0 + getD os (i + (j + 1)) 0 + getD os (i + (j + 2)) 0 + getD os (i + (j + 3)) 0
+  total-four j =
+      let e4 : j + 4 ≡ j + 3 + 1 = omega arith in
+      let e3 : j + 3 ≡ j + 2 + 1 = omega arith in
+      let e2 : j + 2 ≡ j + 1 + 1 = omega arith in
+      let a = total-more os i j in
+      let b = ap (total os i) e2 ∙ total-more os i (j + 1) in
+      let c = ap (total os i) e3 ∙ total-more os i (j + 2) in
+      let d = ap (total os i) e4 ∙ total-more os i (j + 3) in
+      omega arith
+
+  further : (j : ℕ) → j + 3 < n → Window 256 os i (16 + (j + 3) - 4) (16 + (j + 3)) (getD last (16 + (j + 3)) 0)
+  further j h =
+      let e1 : i + (j + 3) - 1 ≡ i + (j + 2) = omega arith in
+      let e2 : i + (j + 3) - 2 ≡ i + (j + 1) = omega arith in
+      let e3 : i + (j + 3) - 3 ≡ i + j = omega arith in
+      let f0 : 16 + (j + 3) - 4 - 15 ≡ j = omega arith in
+      let f4 : 16 + (j + 3) - 15 ≡ j + 4 = omega arith in
       let a = ap (λ (k : ℕ). getD os k 0) e1 in
       let b = ap (λ (k : ℕ). getD os k 0) e2 in
       let c = ap (λ (k : ℕ). getD os k 0) e3 in
-      let t = total-four os i m in
-      stands (19 + m) m (m + 4) (fourTo os (i + (m + 3))) (omega arith) (omega arith) g (omega arith)
+      window-mod 256 os i
+      (window-exact 256 os i (16 + (j + 3) - 4) (16 + (j + 3))
+      (getD os (i + (j + 3)) 0 + getD os (i + (j + 3) - 1) 0 + getD os (i + (j + 3) - 2) 0 + getD os (i + (j + 3) - 3) 0)
+      (omega (arith, total-four j, ap (total os i) f0, ap (total os i) f4)))
+      (apart (16 + (j + 3)) (λ q. omega arith) (λ q. omega arith) (λ q. omega arith) ∙ F .is (j + 3) h)
 
-  pub windows-of : Windows os i n last
-  unfolding Windows
-  windows-of k h = go (ltb k 16) refl
-    where
-      go : (c : Bool) → ltb k 16 ≡ c → (getD last k 0 + total os i (k - 19)) % 256 ≡ total os i (k - 15) % 256
-      go true q =
-          let l = ltb-true k 16 q in
-          stands k 0 0 0 (omega arith) (omega arith) (apart k (λ q. omega arith) (λ q. omega arith) (λ q. omega arith) ∙ F .same k l ∙ zeros k l) (omega arith)
-      go false q = first (ltb k 17) refl
-        where
-          first : (c : Bool) → ltb k 17 ≡ c → (getD last k 0 + total os i (k - 19)) % 256 ≡ total os i (k - 15) % 256
-          first true r =
-              let w : 16 ≡ k = omega (arith, ltb-false k 16 q, ltb-true k 17 r) in
-              subst (λ (m : ℕ). (getD last m 0 + total os i (m - 19)) % 256 ≡ total os i (m - 15) % 256) w (stands 16 0 1 x refl refl at-16 (omega (arith, one, none)))
-          first false r = second (ltb k 18) refl
-            where
-              second : (c : Bool) → ltb k 18 ≡ c → (getD last k 0 + total os i (k - 19)) % 256 ≡ total os i (k - 15) % 256
-              second true s =
-                  let w : 17 ≡ k = omega (arith, ltb-false k 17 r, ltb-true k 18 s) in
-                  subst (λ (m : ℕ). (getD last m 0 + total os i (m - 19)) % 256 ≡ total os i (m - 15) % 256) w (stands 17 0 2 y refl refl at-17 (omega (arith, two, none)))
-              second false s = rest (ltb k 19) refl
-                where
-                  rest : (c : Bool) → ltb k 19 ≡ c → (getD last k 0 + total os i (k - 19)) % 256 ≡ total os i (k - 15) % 256
-                  rest true t =
-                      let w : 18 ≡ k = omega (arith, ltb-false k 18 s, ltb-true k 19 t) in
-                      subst (λ (m : ℕ). (getD last m 0 + total os i (m - 19)) % 256 ≡ total os i (m - 15) % 256) w (stands 18 0 3 z refl refl at-18 (omega (arith, third, none)))
-                  rest false t =
-                      let u = ltb-false k 19 t in
-                      let w : 19 + (k - 19) ≡ k = omega arith in
-                      subst (λ (m : ℕ). (getD last m 0 + total os i (m - 19)) % 256 ≡ total os i (m - 15) % 256) w (further (k - 19) (omega arith))
+  each : (j : ℕ) → j < n → Window 256 os i (16 + j - 4) (16 + j) (getD last (16 + j) 0)
+  each zero h = window-exact 256 os i 12 16 (getD last 16 0) (omega (arith, at-16, one, none))
+  each (suc zero) h = window-mod 256 os i (window-exact 256 os i 13 17 (getD os i 0 + getD os (i + 1) 0 + 0 + 0) (omega (arith, two, none))) (at-17 ∙ ey)
+  each (suc (suc zero)) h =
+      window-mod 256 os i (window-exact 256 os i 14 18 (getD os i 0 + getD os (i + 1) 0 + getD os (i + 2) 0 + 0) (omega (arith, third, none))) (at-18 ∙ ez)
+  each (suc (suc (suc j))) h =
+      let e : j + 3 ≡ suc (suc (suc j)) = omega arith in
+      subst (λ (k : ℕ). Window 256 os i (16 + k - 4) (16 + k) (getD last (16 + k) 0)) e (further j (omega arith))
 
--- ---- pixels modulo 256
+  pub windows-of : Windows 256 4 os i n last
+  windows-of =
+      windows-by 256 os i 4 n last (λ k h. apart k (λ q. omega arith) (λ q. omega arith) (λ q. omega arith) ∙ F .same k h ∙ zeros k h) each
 
-add-mod : (c s w t u : ℕ) → s % 256 ≡ (c + t) % 256 → (w + t) % 256 ≡ u % 256 → (s + w) % 256 ≡ (c + u) % 256
-add-mod c s w t u p q = omega arith
+-- ---- levels
 
-last-mod : (v w more x : ℕ) → more ≡ w % 256 → x ≡ (v + more) % 256 → x ≡ (v + w) % 256
-last-mod v w more x p q = omega arith
-
-twice-mod : (v y : ℕ) → v ≡ y % 256 → v % 256 ≡ y % 256
-twice-mod v y p = omega arith
-
-sums-up : (c t0 t1 t2 t3 t4 v w1 w2 w3 w4 more x : ℕ) → v ≡ (c + t0) % 256 → (w4 + t0) % 256 ≡ t1 % 256 → (w3 + t1) % 256 ≡ t2 % 256 → (w2 + t2) % 256 ≡ t3 % 256 → (w1 + t3) % 256 ≡ t4 % 256
-    → more ≡ (w1 + w2 + w3 + w4) % 256 → x ≡ (v + more) % 256 → x ≡ (c + t4) % 256
-sums-up c t0 t1 t2 t3 t4 v w1 w2 w3 w4 more x a b d e f g h =
-    last-mod v (w1 + w2 + w3 + w4) more x g h ∙ ap (λ (m : ℕ). m % 256) (regroup v w1 w2 w3 w4)
-    ∙ add-mod c (v + w4 + w3 + w2) w1 t3 t4 (add-mod c (v + w4 + w3) w2 t2 t3 (add-mod c (v + w4) w3 t1 t2 (add-mod c v w4 t0 t1 (twice-mod v (c + t0) a) b) d) e) f
+pub levels-start : (m : ℕ) (os : List ℕ) (i c size : ℕ) → c < m → 16 ≤ size → Levels m os i c 0 (replicate size c)
+levels-start m os i c size h l = record { level = start }
   where
-    regroup : (v w1 w2 w3 w4 : ℕ) → v + (w1 + w2 + w3 + w4) ≡ v + w4 + w3 + w2 + w1
-    regroup v w1 w2 w3 w4 = omega arith
+    start : (k : ℕ) → k < 16 + 0 → getD (replicate size c) k 0 ≡ (c + total os i (k - 15)) % m
+    start k b =
+        let e : k - 15 ≡ 0 = omega arith in
+        let f : c ≡ c + total os i (k - 15) = omega (arith, ap (total os i) e, total-none os i) in
+        getD-replicate size k c 0 (omega arith) ∙ sym (mod-eq-of-lt h) ∙ ap (λ (t : ℕ). t % m) f
 
-back-4 : (k j : ℕ) → k + 4 + j - 19 ≡ k + j - 15
-back-4 k j = omega arith
-
-back-0 : (j : ℕ) → 4 + j - 19 ≡ j - 15
-back-0 j = omega arith
-
-pub levels-more : (os : List ℕ) (i c n j : ℕ) (sums levels : List ℕ) (more x : ℕ) → Windows os i n sums → Levels os i c j levels → j < n → 16 + j < length levels
-    → more ≡ (getD sums (16 + j) 0 + getD sums (12 + j) 0 + getD sums (8 + j) 0 + getD sums (4 + j) 0) % 256 → x ≡ (getD levels j 0 + more) % 256 → Levels os i c (j + 1) (set levels (16 + j) x)
-unfolding Windows Levels
-levels-more os i c n j sums levels more x W L h l em ex k b =
-    below-more (λ (m : ℕ). getD (set levels (16 + j) x) m 0 ≡ (c + total os i (m - 15)) % 256) (16 + j)
-    (λ m r. getD-set-other levels (16 + j) m x 0 (λ q. omega arith) ∙ L m r) (getD-set-same levels (16 + j) x 0 l ∙ here) k (omega arith)
+-- a level is one before it and the window between them
+pub levels-more : (m : ℕ) (os : List ℕ) (i c j k s x : ℕ) (levels : List ℕ) → Levels m os i c j levels → k < 16 + j → 16 + j < length levels
+    → Window m os i k (16 + j) s → x ≡ (getD levels k 0 + s) % m → Levels m os i c (j + 1) (set levels (16 + j) x)
+levels-more m os i c j k s x levels L h l W e =
+    record {
+      level = λ p b. below-more (λ (q : ℕ). getD (set levels (16 + j) x) q 0 ≡ (c + total os i (q - 15)) % m) (16 + j)
+          (λ q r. getD-set-other levels (16 + j) q x 0 (λ y. omega arith) ∙ L .level q r) (getD-set-same levels (16 + j) x 0 l ∙ here) p (omega arith);
+    }
   where
-    from : (k t : ℕ) → total os i (k - 19) ≡ t → (getD sums k 0 + total os i (k - 19)) % 256 ≡ total os i (k - 15) % 256 → (getD sums k 0 + t) % 256 ≡ total os i (k - 15) % 256
-    from k t e w = ap (λ (u : ℕ). (getD sums k 0 + u) % 256) (sym e) ∙ w
-
-    here : x ≡ (c + total os i (16 + j - 15)) % 256
+    here : x ≡ (c + total os i (16 + j - 15)) % m
     here =
-        let t1 = ap (total os i) (back-4 12 j) in
-        let t2 = ap (total os i) (back-4 8 j) in
-        let t3 = ap (total os i) (back-4 4 j) in
-        let t4 = ap (total os i) (back-0 j) in
-        let w1 = from (16 + j) (total os i (12 + j - 15)) t1 (W (16 + j) (omega arith)) in
-        let w2 = from (12 + j) (total os i (8 + j - 15)) t2 (W (12 + j) (omega arith)) in
-        let w3 = from (8 + j) (total os i (4 + j - 15)) t3 (W (8 + j) (omega arith)) in
-        let w4 = from (4 + j) (total os i (j - 15)) t4 (W (4 + j) (omega arith)) in
-        let v = L j (omega arith) in
-        sums-up c (total os i (j - 15)) (total os i (4 + j - 15)) (total os i (8 + j - 15)) (total os i (12 + j - 15)) (total os i (16 + j - 15)) (getD levels j 0) (getD sums (16 + j) 0) (getD sums (12 + j) 0)
-        (getD sums (8 + j) 0) (getD sums (4 + j) 0) more x v w4 w3 w2 w1 em ex
+        let o = total os i (k - 15) in
+        let f : c + o + s ≡ c + (s + o) = omega arith in
+        e ∙ ap (λ (u : ℕ). (u + s) % m) (L .level k h) ∙ mod-add-mod (c + o) m s ∙ ap (λ (u : ℕ). u % m) f ∙ sym (add-mod-mod c (s + o) m)
+        ∙ ap (λ (u : ℕ). (c + u) % m) (W .sum) ∙ add-mod-mod c (total os i (16 + j - 15)) m
 
--- the bitwise or is at least each of them
-pub under-more : (levels : List ℕ) (j all x : ℕ) → 16 + j < length levels → ((k : ℕ) → k < j → getD levels (16 + k) 0 ≤ all) → (k : ℕ) → k < j + 1 → getD (set levels (16 + j) x) (16 + k) 0 ≤ bitOr all x
-under-more levels j all x l u =
-    below-more (λ (k : ℕ). getD (set levels (16 + j) x) (16 + k) 0 ≤ bitOr all x) j
-    (λ k h. let e = getD-set-other levels (16 + j) (16 + k) x 0 (λ q. omega arith) in omega (arith, u k h, or-left all x)) (let e = getD-set-same levels (16 + j) x 0 l in omega (arith, or-right all x))
+-- ---- a number of k octets that is added to a lower half, modulo what k octets can hold, and leads to a lower half
 
--- ---- the pixels themselves
+add-low : (m h v v′ d : ℕ) → m ≡ 2 * h → v < h → v′ ≡ (v + d) % m → d < h → v′ ≡ v + d
+add-low m h v v′ d w a e l = e ∙ mod-eq-of-lt (omega arith)
 
--- one plain octet between two pixels that are less than 128 above base
-near-step : (base v v′ o : ℕ) → v < 128 → v′ < 128 → o < 256 → (o ≡ 128 → ⊥) → v′ ≡ (v + o) % 256 → pos (base + v′) ≡ pos (base + v) +ℤ signed 1 o
-unfolding half
-near-step base v v′ o h h′ b p e = go (ltb o 128) refl
+add-high : (m h v v′ d : ℕ) → m ≡ 2 * h → v < h → v′ < h → d < m → v′ ≡ (v + d) % m → h ≤ d → v′ + m ≡ v + d
+add-high m h v v′ d w a a′ b e l = go (ltb (v + d) m) refl
   where
-    go : (t : Bool) → ltb o 128 ≡ t → pos (base + v′) ≡ pos (base + v) +ℤ signed 1 o
+    go : (t : Bool) → ltb (v + d) m ≡ t → v′ + m ≡ v + d
+    go true q = let f = e ∙ mod-eq-of-lt (ltb-true (v + d) m q) in let y : ⊥ = omega arith in absurd y
+    go false q = let g = ltb-false (v + d) m q in let f = e ∙ mod-eq-sub-mod g ∙ mod-eq-of-lt (omega arith) in omega arith
+
+signed-step : (k base v v′ d : ℕ) → v < half k → v′ < half k → d < 256 ^ k → v′ ≡ (v + d) % 256 ^ k → pos (base + v′) ≡ pos (base + v) +ℤ signed k d
+signed-step k base v v′ d h h′ b e = go (ltb d (half k)) refl
+  where
+    go : (t : Bool) → ltb d (half k) ≡ t → pos (base + v′) ≡ pos (base + v) +ℤ signed k d
     go true q =
-        let l = ltb-true o 128 q in
-        let m : base + v′ ≡ base + v + o = omega arith in
-        ap pos m ∙ ap (λ (z : ℤ). pos (base + v) +ℤ z) (sym (signed-low 1 o l))
+        let l = ltb-true d (half k) q in
+        let p = add-low (256 ^ k) (half k) v v′ d (two-halves k (omega arith)) h e l in
+        let r : base + v′ ≡ base + v + d = omega arith in
+        ap pos r ∙ ap (λ (z : ℤ). pos (base + v) +ℤ z) (sym (signed-low k d l))
     go false q =
-        let l = ltb-false o 128 q in
-        let m : base + v′ ≡ base + v - suc (256 - suc o) = omega arith in
-        ap pos m ∙ sym (subℕ-pos (base + v) (suc (256 - suc o)) (omega arith)) ∙ ap (λ (z : ℤ). pos (base + v) +ℤ z) (sym (signed-high 1 o l))
+        let l = ltb-false d (half k) q in
+        let p = add-high (256 ^ k) (half k) v v′ d (two-halves k (omega arith)) h h′ b e l in
+        let r : base + v′ ≡ base + v - suc (256 ^ k - suc d) = omega arith in
+        ap pos r ∙ sym (subℕ-pos (base + v) (suc (256 ^ k - suc d)) (omega arith)) ∙ ap (λ (z : ℤ). pos (base + v) +ℤ z) (sym (signed-high k d l))
 
-module _ (os : List ℕ) (i n c : ℕ) (levels : List ℕ) (L : Levels os i c n levels) (small : (k : ℕ) → k < n → getD levels (16 + k) 0 < 128) (start : c < 128) (plain : Plain os i n) (inside : i + n ≤ length os)
-    (octet : (k : ℕ) → getD os k 0 < 256) where
-  level : (m : ℕ) → m ≤ n → getD levels (15 + m) 0 ≡ (c + total os i m) % 256
-  unfolding Levels
-  level m h = let e : 15 + m - 15 ≡ m = omega arith in L (15 + m) (omega arith) ∙ ap (λ (k : ℕ). (c + total os i k) % 256) e
+-- levels that all are in the lower half
+module _ (k : ℕ) (os : List ℕ) (i c n : ℕ) (levels : List ℕ) (L : Levels (256 ^ k) os i c n levels)
+    (small : (j : ℕ) → j < n → getD levels (16 + j) 0 < half k) (start : c < half k) where
+  level : (j : ℕ) → j ≤ n → getD levels (15 + j) 0 ≡ (c + total os i j) % 256 ^ k
+  level j h = let e : 15 + j - 15 ≡ j = omega arith in L .level (15 + j) (omega arith) ∙ ap (λ (p : ℕ). (c + total os i p) % 256 ^ k) e
 
-  first : getD levels (15 + 0) 0 ≡ c
-  unfolding total
-  first = level 0 (omega arith) ∙ omega arith
+  pub level-first : getD levels (15 + 0) 0 ≡ c
+  level-first =
+      let e : c + total os i 0 ≡ c = omega (arith, total-none os i) in
+      level 0 (omega arith) ∙ ap (λ (p : ℕ). p % 256 ^ k) e ∙ mod-eq-of-lt (omega (arith, start, two-halves k (omega (arith, start))))
 
-  low : (m : ℕ) → m ≤ n → getD levels (15 + m) 0 < 128
-  low zero h = omega (arith, first)
-  low (suc m) h = let e : 16 + m ≡ 15 + suc m = omega arith in subst (λ (k : ℕ). getD levels k 0 < 128) e (small m (omega arith))
+  pub level-low : (j : ℕ) → j ≤ n → getD levels (15 + j) 0 < half k
+  level-low zero h = omega (arith, level-first, start)
+  level-low (suc j) h = let e : 16 + j ≡ 15 + suc j = omega arith in subst (λ (p : ℕ). getD levels p 0 < half k) e (small j (omega arith))
 
-  follows : (m : ℕ) → m < n → getD levels (15 + (m + 1)) 0 ≡ (getD levels (15 + m) 0 + getD os (i + m) 0) % 256
-  follows m h = let a = level m (omega arith) in let b = level (m + 1) (omega arith) in let t = total-more os i m in omega arith
+  follows : (j : ℕ) → j < n → getD levels (15 + (j + 1)) 0 ≡ (getD levels (15 + j) 0 + getD os (i + j) 0) % 256 ^ k
+  follows j h =
+      let o = getD os (i + j) 0 in
+      let e : c + total os i (j + 1) ≡ c + total os i j + o = omega (arith, total-more os i j) in
+      level (j + 1) (omega arith) ∙ ap (λ (p : ℕ). p % 256 ^ k) e ∙ sym (mod-add-mod (c + total os i j) (256 ^ k) o)
+      ∙ ap (λ (p : ℕ). (p + o) % 256 ^ k) (sym (level j (omega arith)))
 
-  near-passes : (top base : ℕ) → biasedLeast ≤ base → base + 127 ≤ top → (m : ℕ) → m ≤ n → Passes top os (base + c) i m (base + getD levels (15 + m) 0) (i + m)
-  near-passes top base l t zero h =
-      let e : i ≡ i + 0 = omega arith in
-      subst (Passes top os (base + c) i 0 (base + getD levels (15 + 0) 0)) e
-      (subst (λ (k : ℕ). Passes top os (base + c) i 0 k i) (ap (λ (k : ℕ). base + k) (sym first)) (passes-none top os (base + c) i))
-  near-passes top base l t (suc m) h = more (near-passes top base l t m (omega arith))
-    where
-      more : Passes top os (base + c) i m (base + getD levels (15 + m) 0) (i + m) → Passes top os (base + c) i (suc m) (base + getD levels (15 + suc m) 0) (i + suc m)
-      more P =
-          let b = base + getD levels (15 + m) 0 in
-          let b′ = base + getD levels (15 + (m + 1)) 0 in
-          let v = low m (omega arith) in
-          let v′ = low (m + 1) (omega arith) in
-          let e = near-step base (getD levels (15 + m) 0) (getD levels (15 + (m + 1)) 0) (getD os (i + m) 0) v v′ (octet (i + m)) (plain m (omega arith)) (follows m (omega arith)) in
-          let x : i + m + 1 ≡ i + (m + 1) = omega arith in
-          subst (λ (k : ℕ). Passes top os (base + c) i k (base + getD levels (15 + k) 0) (i + k)) (add-one m)
-          (subst (Passes top os (base + c) i (m + 1) b′) x
-          (passes-passes top os (base + c) i m 1 b (i + m) b′ (i + m + 1) P (step-in (plain-took os (i + m) (omega arith) (plain m (omega arith))) (omega arith, omega arith) e (omega arith, omega arith))))
-
-  pub stays : Stays os i n c (getD levels (15 + n) 0)
-  unfolding Stays
-  stays top base l t = near-passes top base l t n (omega arith)
+  pub level-step : (base j : ℕ) → j < n → getD os (i + j) 0 < 256 ^ k
+      → pos (base + getD levels (15 + (j + 1)) 0) ≡ pos (base + getD levels (15 + j) 0) +ℤ signed k (getD os (i + j) 0)
+  level-step base j h b =
+      signed-step k base (getD levels (15 + j) 0) (getD levels (15 + (j + 1)) 0) (getD os (i + j) 0) (level-low j (omega arith)) (level-low (j + 1) (omega arith)) b (follows j h)

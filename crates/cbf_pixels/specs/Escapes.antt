@@ -1,21 +1,14 @@
 -- What mixed.rt says of its work: 192 octets, of which some are escapes, passed at once. Nothing here is part of what the
 -- public calls promise.
-use Prim.Native.Nat.{ℕ, zero, suc, _+_, _*_, _-_, _%_, _<_, _≤_}
+use Prim.Native.Nat.{ℕ, zero, suc, _+_, _*_, _-_, _<_, _≤_}
 use mathlib.Core.Path.{_≡_}
 use mathlib.Core.List.{List}
-use mathlib.Core.Bool.{Bool, true, false}
 use mathlib.Core.Logic.{_⊎_}
 use lib.Bits.{bitAnd, bitOr, bitXor}
 use lib.Dec.{ltb, eqb}
 use lib.ListN.{length, getD}
 use lib.IntN.{ℤ, pos, _+ℤ_}
 use Rattle.cbf_pixels.specs.Octets.{pick, signed}
-
--- of an array of size numbers: from 16 on stand the n that f gives, and before them what stood there
-pub record Written (f : ℕ → ℕ) (n size : ℕ) (before xs : List ℕ) : Type 0 where
-  pub is : (j : ℕ) → j < n → getD xs (16 + j) 0 ≡ f j
-  pub same : (k : ℕ) → k < 16 → getD xs k 0 ≡ getD before k 0
-  pub long : length xs ≡ size
 
 -- ---- marks: 255 for the escape, else 0
 
@@ -90,23 +83,6 @@ pub record Addends (ds : List ℕ) : Type 0 where
   pub long : length ds ≡ 208
 
 -- ---- the pixels after each octet
-
--- the sum of a number and of that back before it, modulo 65,536
-abbrev pub backAt : List ℕ → ℕ → ℕ → ℕ
-backAt xs back j = (getD xs (16 + j) 0 + getD xs (16 + j - back) 0) % 65536
-
--- the sum of the n numbers from 16 on
-unfoldable pub sumTo : List ℕ → ℕ → ℕ
-sumTo ds zero = 0
-sumTo ds (suc n) = sumTo ds n + getD ds (16 + n) 0
-
--- at k stands the sum of the w numbers of ds up to k, modulo 65,536
-unfoldable pub SumsOf : List ℕ → ℕ → List ℕ → Type 0
-SumsOf ds w xs = (k : ℕ) → k < 208 → (getD xs k 0 + sumTo ds (k - 15 - w)) % 65536 ≡ sumTo ds (k - 15) % 65536
-
--- from 15 on stand c and the sums with it up to each of the first n numbers of ds, modulo 65,536
-unfoldable pub LevelsOf : List ℕ → ℕ → ℕ → List ℕ → Type 0
-LevelsOf ds c n xs = (k : ℕ) → k < 16 + n → getD xs k 0 ≡ (c + sumTo ds (k - 15)) % 65536
 
 -- the sum of the first n numbers of ds as signed ones, each plus 32,768
 unfoldable pub raisedTo : List ℕ → ℕ → ℕ

@@ -1,3 +1,4 @@
+pub mod Summing
 pub mod Escapes
 pub mod Octets
 pub mod Pixels

@@ -125,29 +125,6 @@ pub record Glides (os : List ℕ) (i n total : ℕ) : Type 0 where
   pub most : total ≤ 255 * n
   pub leads : (top biased : ℕ) → biasedLeast + 128 * n ≤ biased → biased + 128 * n ≤ top → Passes top os biased i n (biased + total - 128 * n) (i + n)
 
--- the sum of the n octets from i on
-unfoldable pub total : List ℕ → ℕ → ℕ → ℕ
-total os i zero = 0
-total os i (suc n) = total os i n + getD os (i + n) 0
-
--- the sum of the octet at k and the three before it, modulo 256
-abbrev pub fourTo : List ℕ → ℕ → ℕ
-fourTo os k = (getD os k 0 + getD os (k - 1) 0 + getD os (k - 2) 0 + getD os (k - 3) 0) % 256
-
--- from 16 on stands the sum of each of n octets from i on and the three before it, modulo 256
-pub record Fours (os : List ℕ) (i n : ℕ) (before sums : List ℕ) : Type 0 where
-  pub four : (j : ℕ) → j < n → getD sums (16 + j) 0 ≡ fourTo os (i + j)
-  pub same : (k : ℕ) → k < 16 → getD sums k 0 ≡ getD before k 0
-  pub long : length sums ≡ 1040
-
--- the same without the octets before i, and 0 below 16
-unfoldable pub Windows : List ℕ → ℕ → ℕ → List ℕ → Type 0
-Windows os i n sums = (k : ℕ) → k < 16 + n → (getD sums k 0 + total os i (k - 19)) % 256 ≡ total os i (k - 15) % 256
-
--- from 16 on stands c and the sum of the octets from i up to each of n octets, modulo 256
-unfoldable pub Levels : List ℕ → ℕ → ℕ → ℕ → List ℕ → Type 0
-Levels os i c n levels = (k : ℕ) → k < 16 + n → getD levels k 0 ≡ (c + total os i (k - 15)) % 256
-
 -- n plain octets from i on lead from the pixel c above base to that r above it, and stay less than 128 above base
 unfoldable pub Stays : List ℕ → ℕ → ℕ → ℕ → ℕ → Type 0
 Stays os i n c r = (top base : ℕ) → biasedLeast ≤ base → base + 127 ≤ top → Passes top os (base + c) i n (base + r) (i + n)

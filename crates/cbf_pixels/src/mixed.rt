@@ -1,15 +1,16 @@
 // 192 octets at once where some are escapes but none stands within two behind another: each escape is then followed by the
 // two octets of its difference. What an octet adds to the pixel before it is a number of 16 bits: a plain octet its
 // difference, an octet two behind an escape the difference that ends there, any other octet 0.
-use crate::octets;
 ghost use mathlib.Core.Path.{_≡_};
 ghost use mathlib.Core.Bool.{true};
 ghost use mathlib.Core.List.{List};
-ghost use Prim.Native.Nat.{ℕ, _+_, _*_, _-_, _%_, _<_, _≤_};
+ghost use Prim.Native.Nat.{ℕ, _+_, _*_, _-_, _<_, _≤_};
 ghost use lib.Bits.{bitXor};
 ghost use lib.ListN.{length, getD};
 ghost use Rattle.cbf_pixels.specs.Steps.{biasedLeast, Top, Between, Passed};
-ghost use Rattle.cbf_pixels.specs.Escapes.{Written, markOf, markAt, IsMark, EachMark, Apart, endOf, endsTo, wholeOf, choose, signOf, lowAt, highAt, joinedAt, addedAt, Addends, backAt, SumsOf, LevelsOf, raisedTo, Walk};
+ghost use Rattle.cbf_pixels.specs.Summing.{Written, backAt, Windows, Levels};
+ghost use Rattle.cbf_pixels.specs.Escapes.{markOf, markAt, IsMark, EachMark, Apart, endOf, endsTo, wholeOf, choose, signOf};
+ghost use Rattle.cbf_pixels.specs.Escapes.{lowAt, highAt, joinedAt, addedAt, Addends, raisedTo, Walk};
 
 // 255 for the escape, else 0.
 fn mark(o: u8) -> u8
@@ -133,7 +134,7 @@ fn differences(low: &[u8; 208], high: &[u8; 208], added: &mut [u16; 208])
 // From 16 on, the sum of each number and of that back before it.
 fn add_back(numbers: &[u16; 208], back: usize, sums: &mut [u16; 208])
     requires { ⌜ (back ≤ 16) × (length (now sums) ≡ 208) ⌝ }
-    ensures { λ _. ⌜ Written (backAt (now (numbers .entry)) back) 192 208 (now (sums .entry)) (now (sums .exit)) ⌝ }
+    ensures { λ _. ⌜ Written (backAt 65536 (now (numbers .entry)) back) 192 208 (now (sums .entry)) (now (sums .exit)) ⌝ }
 {
     let mut j: usize = 0;
     while j < 192 {
@@ -145,7 +146,7 @@ fn add_back(numbers: &[u16; 208], back: usize, sums: &mut [u16; 208])
 // From 16 on, the pixel after each octet, modulo 65,536, by sums of four; the bitwise or of them.
 fn levels(fours: &[u16; 208], pixels: &mut [u16; 208]) -> u16
     requires { ⌜ length (now pixels) ≡ 208 ⌝ }
-    ensures { λ r. ⌜ ((ds : List ℕ) (c : ℕ) → SumsOf ds 4 (now (fours .entry)) → LevelsOf ds c 0 (now (pixels .entry)) → LevelsOf ds c 192 (now (pixels .exit))) ⌝ }
+    ensures { λ r. ⌜ ((ds : List ℕ) (c : ℕ) → Windows 65536 4 ds 16 192 (now (fours .entry)) → Levels 65536 ds 16 c 0 (now (pixels .entry)) → Levels 65536 ds 16 c 192 (now (pixels .exit))) ⌝ }
     ensures { λ r. ⌜ ((k : ℕ) → k < 192 → getD (now (pixels .exit)) (16 + k) 0 ≤ r) ⌝ }
 {
     let mut all: u16 = 0;

@@ -4,7 +4,8 @@ ghost use mathlib.Core.Path.{_≡_};
 ghost use mathlib.Core.List.{List};
 ghost use Prim.Native.Nat.{ℕ, _+_, _-_, _%_, _<_, _≤_};
 ghost use lib.ListN.{length, getD};
-ghost use Rattle.cbf_pixels.specs.Steps.{Plain, Fours, Windows, Levels, Stays};
+ghost use Rattle.cbf_pixels.specs.Steps.{Plain, Stays};
+ghost use Rattle.cbf_pixels.specs.Summing.{Written, fourAt, Windows, Levels};
 
 fn add4(a: u8, b: u8, c: u8, d: u8) -> u8
     ensures { λ r. ⌜ r ≡ (a + b + c + d) % 256 ⌝ }
@@ -17,7 +18,7 @@ fn add4(a: u8, b: u8, c: u8, d: u8) -> u8
 // From 16 on, the sum of each of n octets from i on and the three before it.
 fn fours(octets: &[u8], i: usize, n: usize, sums: &mut [u8; 1040])
     requires { ⌜ (3 ≤ i) × (i + n ≤ length (now octets)) × (n ≤ 1024) × (length (now sums) ≡ 1040) ⌝ }
-    ensures { λ _. ⌜ Fours (now (octets .entry)) i n (now (sums .entry)) (now (sums .exit)) ⌝ }
+    ensures { λ _. ⌜ Written (fourAt (now (octets .entry)) i) n 1040 (now (sums .entry)) (now (sums .exit)) ⌝ }
 {
     let mut j: usize = 0;
     while j < n {
@@ -29,8 +30,9 @@ fn fours(octets: &[u8], i: usize, n: usize, sums: &mut [u8; 1040])
 
 // The same without the octets before i.
 fn windows(octets: &[u8], i: usize, n: usize, sums: &mut [u8; 1040])
-    requires { ⌜ (3 ≤ i) × (i + n ≤ length (now octets)) × (3 ≤ n) × (n ≤ 1024) × (length (now sums) ≡ 1040) × ((k : ℕ) → k < 16 → getD (now sums) k 0 ≡ 0) ⌝ }
-    ensures { λ _. ⌜ Windows (now (octets .entry)) i n (now (sums .exit)) ⌝ }
+    requires { ⌜ (3 ≤ i) × (i + n ≤ length (now octets)) × (3 ≤ n) × (n ≤ 1024) × (length (now sums) ≡ 1040)
+        × ((k : ℕ) → k < 16 → getD (now sums) k 0 ≡ 0) ⌝ }
+    ensures { λ _. ⌜ Windows 256 4 (now (octets .entry)) i n (now (sums .exit)) ⌝ }
 {
     fours(octets, i, n, sums);
     sums[16] = octets[i];
@@ -41,7 +43,8 @@ fn windows(octets: &[u8], i: usize, n: usize, sums: &mut [u8; 1040])
 // From 16 on, the pixel after each octet, modulo 256; the bitwise or of them.
 fn levels(sums: &[u8; 1040], n: usize, pixels: &mut [u8; 1040]) -> u8
     requires { ⌜ (n ≤ 1024) × (length (now pixels) ≡ 1040) ⌝ }
-    ensures { λ r. ⌜ ((os : List ℕ) (i c : ℕ) → Windows os i n (now (sums .entry)) → Levels os i c 0 (now (pixels .entry)) → Levels os i c n (now (pixels .exit))) × ((k : ℕ) → k < n → getD (now (pixels .exit)) (16 + k) 0 ≤ r) ⌝ }
+    ensures { λ r. ⌜ ((os : List ℕ) (i c : ℕ) → Windows 256 4 os i n (now (sums .entry)) → Levels 256 os i c 0 (now (pixels .entry)) → Levels 256 os i c n (now (pixels .exit))) ⌝ }
+    ensures { λ r. ⌜ ((k : ℕ) → k < n → getD (now (pixels .exit)) (16 + k) 0 ≤ r) ⌝ }
 {
     let mut all: u8 = 0;
     let mut j: usize = 0;

@@ -2,8 +2,9 @@
 use borrow.Author.Needs.{needs}
 use native.Mathlib.Omega.{arith}
 use Prim.Native.Nat.{_+_, _-_, _≤_}
-use Rattle.cbf_pixels.specs.Escapes.{Written, highAt}
-use Rattle.cbf_pixels.proofs.MarkLaws.{written-none, written-more, written-first}
+use Rattle.cbf_pixels.specs.Summing.{Written}
+use Rattle.cbf_pixels.specs.Escapes.{highAt}
+use Rattle.cbf_pixels.proofs.Modulo.{written-none, written-more, written-first}
 use Rattle.cbf_pixels.proofs.mixed.high_octets.Statement.{statement}
 use Rattle.cbf_pixels.proofs.mixed.high_octets.Tie as tie
 

@@ -1,8 +1,9 @@
 -- `low_octets` meets its contract. The loop has written the first j octets. Assumes nothing.
 use native.Mathlib.Omega.{arith}
 use Prim.Native.Nat.{_+_, _-_, _≤_}
-use Rattle.cbf_pixels.specs.Escapes.{Written, lowAt}
-use Rattle.cbf_pixels.proofs.MarkLaws.{written-none, written-more, written-first}
+use Rattle.cbf_pixels.specs.Summing.{Written}
+use Rattle.cbf_pixels.specs.Escapes.{lowAt}
+use Rattle.cbf_pixels.proofs.Modulo.{written-none, written-more, written-first}
 use Rattle.cbf_pixels.proofs.mixed.low_octets.Statement.{statement}
 use Rattle.cbf_pixels.proofs.mixed.low_octets.Tie as tie
 

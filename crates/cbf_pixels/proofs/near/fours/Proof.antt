@@ -1,21 +1,20 @@
 -- `fours` meets its contract. The loop has written the first j sums. Assumes nothing.
 use borrow.Author.Needs.{needs}
 use native.Mathlib.Omega.{arith}
-use Prim.Native.Nat.{ℕ, _+_, _-_, _≤_}
-use mathlib.Core.Path.{_≡_, subst}
-use Rattle.cbf_pixels.specs.Steps.{Fours}
-use Rattle.cbf_pixels.proofs.Modulo.{fours-none, fours-more}
+use Prim.Native.Nat.{_-_, _≤_}
+use Rattle.cbf_pixels.specs.Summing.{Written, fourAt}
+use Rattle.cbf_pixels.proofs.Modulo.{written-none, written-more, written-first}
 use Rattle.cbf_pixels.proofs.near.fours.Statement.{statement}
 use Rattle.cbf_pixels.proofs.near.fours.Tie as tie
 
 abbrev Inv-loop : tie.InvT-loop
-Inv-loop octets i n sums₀ j₀ sums j = (j ≤ n) × Fours octets i j sums₀ sums
+Inv-loop octets i n sums₀ j₀ sums j = (j ≤ n) × Written (fourAt octets i) j 1040 sums₀ sums
 
 abbrev μ-loop : tie.MeasureT-loop
 μ-loop octets i n sums₀ j₀ sums j = n - j
 
 loop-holds : tie.Need-loop-holds Inv-loop μ-loop
-loop-holds c = (omega arith, fours-none (c .before .args .octets .now) (c .before .args .i) (c .before .args .sums .now) (c .before .pre .3))
+loop-holds c = (omega arith, written-none _ _ _ (c .before .pre .3))
 
 add-k : tie.Need-add-k Inv-loop μ-loop
 add-k c = omega (arith, c .before .before .before .pre .1)
@@ -58,18 +57,12 @@ loop-less c = omega arith
 
 loop-again : tie.Need-loop-again Inv-loop μ-loop
 loop-again c =
-    let a = c .before .before .before .before .before .before .before .before .args in
     let p = c .before .before .before .before .before .before .before .before .pre in
     let l = c .before .before .before .before .before .before .loop in
-    let t = c .before .before .before .before .before .loop-test .taken in
-    (omega arith, fours-more (a .octets .now) (a .i) (l .j) (a .sums .now) (l .sums) (c .add4 .result) (l .inv .1) (omega (arith, p .2)) (c .add4 .ensures))
+    (omega arith, written-more _ _ _ _ _ _ (l .inv .1) (omega (arith, p .2)) (c .add4 .ensures))
 
 returns : tie.Need-returns Inv-loop μ-loop
-returns c =
-    let a = c .before .before .before .args in
-    let l = c .before .loop in
-    let e : l .j ≡ a .n = omega (arith, l .inv .0, c .loop-test .left) in
-    subst (λ (k : ℕ). Fours (a .octets .now) (a .i) k (a .sums .now) (l .sums)) e (l .inv .1)
+returns c = written-first (c .before .before .before .args .n) (c .before .loop .inv .1) (omega (arith, c .loop-test .left))
 
 pub fours-spec : {M : Type 1} → statement M
 fours-spec =

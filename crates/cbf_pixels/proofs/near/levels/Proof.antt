@@ -1,22 +1,19 @@
 -- `levels` meets its contract. The loop has written the first j pixels. Assumes nothing.
 use borrow.Author.Needs.{needs}
-use borrow.Author.Count.{below-more}
 use native.Mathlib.Omega.{arith}
 use Prim.Native.Nat.{ℕ, _+_, _-_, _<_, _≤_}
-use mathlib.Core.Path.{_≡_, ap, sym, _∙_, subst}
+use mathlib.Core.Path.{_≡_, _∙_, subst}
 use mathlib.Core.List.{List}
-use lib.Bits.{bitOr}
-use lib.ListN.{length, getD, length-set, set}
-use lib.Seq.{getD-set-same, getD-set-other}
-use Rattle.cbf_pixels.specs.Steps.{Windows, Levels}
-use Rattle.cbf_pixels.proofs.Bitwise.{or-left, or-right}
-use Rattle.cbf_pixels.proofs.Modulo.{levels-more, under-more}
+use lib.ListN.{length, getD, length-set}
+use Rattle.cbf_pixels.specs.Summing.{Windows, Levels}
+use Rattle.cbf_pixels.proofs.Modulo.{window-mod, window-16, levels-more, under-more}
 use Rattle.cbf_pixels.proofs.near.levels.Statement.{statement}
 use Rattle.cbf_pixels.proofs.near.levels.Tie as tie
 
 abbrev Inv-loop : tie.InvT-loop
 Inv-loop sums n pixels₀ all₀ j₀ pixels all j =
-    (j ≤ n) × (length pixels ≡ 1040) × ((os : List ℕ) (i c : ℕ) → Windows os i n sums → Levels os i c 0 pixels₀ → Levels os i c j pixels) × ((k : ℕ) → k < j → getD pixels (16 + k) 0 ≤ all)
+    (j ≤ n) × (length pixels ≡ 1040) × ((os : List ℕ) (i c : ℕ) → Windows 256 4 os i n sums → Levels 256 os i c 0 pixels₀ → Levels 256 os i c j pixels)
+    × ((k : ℕ) → k < j → getD pixels (16 + k) 0 ≤ all)
 
 abbrev μ-loop : tie.MeasureT-loop
 μ-loop sums n pixels₀ all₀ j₀ pixels all j = n - j
@@ -76,11 +73,12 @@ loop-again c =
     let l = c .before .before .before .before .before .before .before .before .loop in
     let t = c .before .before .before .before .before .before .before .loop-test .taken in
     let x = c .wrapping-add-u8 .result in
-    let more = c .before .before .add4 .result in
+    let more = c .before .before .add4 in
     let here : 16 + l .j < length (l .pixels) = omega (arith, p .0, l .inv .1) in (
       omega arith,
       length-set (l .pixels) (16 + l .j) x ∙ l .inv .1,
-      λ os i b W L. levels-more os i b (a .n) (l .j) (a .sums .now) (l .pixels) more x W (l .inv .2 os i b W L) t here (c .before .before .add4 .ensures) (c .wrapping-add-u8 .ensures),
+      λ os i b W L. levels-more 256 os i b (l .j) (l .j) (more .result) x (l .pixels) (l .inv .2 os i b W L) (omega arith) here
+          (window-mod 256 os i (window-16 256 os i (a .n) (a .sums .now) W (l .j) t) (more .ensures)) (c .wrapping-add-u8 .ensures),
       under-more (l .pixels) (l .j) (l .all) x here (l .inv .3),
     )
 
@@ -89,7 +87,7 @@ returns c =
     let a = c .before .before .args in
     let l = c .before .loop in
     let e : l .j ≡ a .n = omega (arith, l .inv .0, c .loop-test .left) in
-    (λ os i b W L. subst (λ (k : ℕ). Levels os i b k (l .pixels)) e (l .inv .2 os i b W L), λ k h. l .inv .3 k (omega arith))
+    (λ os i b W L. subst (λ (k : ℕ). Levels 256 os i b k (l .pixels)) e (l .inv .2 os i b W L), λ k h. l .inv .3 k (omega arith))
 
 pub levels-spec : {M : Type 1} → statement M
 levels-spec =

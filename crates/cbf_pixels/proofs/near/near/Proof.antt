@@ -2,7 +2,8 @@
 use native.Mathlib.Omega.{arith}
 use mathlib.Core.Path.{refl}
 use lib.ListN.{getD-replicate}
-use Rattle.cbf_pixels.proofs.Modulo.{levels-start, stays}
+use Rattle.cbf_pixels.proofs.Modulo.{levels-start}
+use Rattle.cbf_pixels.proofs.LevelLaws.{stays}
 use borrow.Author.Needs.{needs}
 use Rattle.cbf_pixels.proofs.near.near.Statement.{statement}
 use Rattle.cbf_pixels.proofs.near.near.Tie as tie
@@ -31,7 +32,7 @@ returns-2 c = λ h.
     let E = c .before .levels .ensures in
     let t = c .if1 .left in
     stays (a .octets .now) (a .i) (a .n) (a .c) (c .before .levels .last .1 .1 .0)
-    (E .0 (a .octets .now) (a .i) (a .c) (c .before .before .before .before .windows .ensures) (levels-start (a .octets .now) (a .i) (a .c) 1040 (p .4) (omega arith)))
+    (E .0 (a .octets .now) (a .i) (a .c) (c .before .before .before .before .windows .ensures) (levels-start 256 (a .octets .now) (a .i) (a .c) 1040 (omega (arith, p .4)) (omega arith)))
     (λ k b. omega (arith, E .1 k b)) (p .4) (p .5) (p .1) (λ k. omega (arith, c .before .before .before .before .before .before .shared-slice-known .given k))
 
 pub near-spec : {M : Type 1} → statement M

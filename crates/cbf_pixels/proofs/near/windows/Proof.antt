@@ -1,5 +1,4 @@
 -- `windows` meets its contract. Assumes nothing.
-use native.Mathlib.Omega.{arith}
 use mathlib.Core.Path.{refl}
 use lib.ListN.{getD}
 use Rattle.cbf_pixels.proofs.Modulo.{windows-of}
