@@ -51,7 +51,8 @@ module _ (os : List ℕ) (i n c : ℕ) (levels : List ℕ) (L : Levels 256 os i 
           subst (λ (k : ℕ). Passes top os (base + c) i k (base + getD levels (15 + k) 0) (i + k)) (add-one m)
           (subst (Passes top os (base + c) i (m + 1) b′) x
           (passes-passes top os (base + c) i m 1 b (i + m) b′ (i + m + 1) P
-          (step-in (plain-took os (i + m) (omega arith) (plain m (omega arith))) (omega arith, omega arith) (step base m (omega arith)) (omega arith, omega arith))))
+          (step-in (plain-took os (i + m) (omega arith) (plain m (omega arith))) (omega arith, omega arith) (step base m (omega arith))
+          (omega arith, omega arith))))
 
   pub stays : Stays os i n c (getD levels (15 + n) 0)
   unfolding Stays
@@ -88,12 +89,15 @@ module _ (ds : List ℕ) (number : (k : ℕ) → k < 208 → getD ds k 0 < 65536
 
   raised-is : (k : ℕ) → k < 208 → signed 2 (getD ds k 0) ≡ subℕ (bitXor (getD ds k 0) 32768) 32768
   unfolding half
-  raised-is k h = sym (extend 32768 (getD ds k 0) (record { exponent = 15; power = refl; small = omega arith; fits = omega (arith, number k h) }) 2 refl)
+  raised-is k h =
+      sym (extend 32768 (getD ds k 0) (record { exponent = 15; power = refl; small = omega arith; fits = omega (arith, number k h) }) 2 refl)
 
   rises : (b b′ r : ℕ) (d : ℤ) → d ≡ subℕ r 32768 → b′ + 32768 ≡ b + r → pos b′ ≡ pos b +ℤ d
   rises b b′ r d v e =
       let q : r + b - 32768 ≡ b′ = omega arith in
-      sym (ap (λ (z : ℤ). pos b +ℤ z) v ∙ +ℤ-comm (pos b) (subℕ r 32768) ∙ sub-sum r 32768 (r + b) (pos b) refl ∙ subℕ-pos (r + b) 32768 (omega arith) ∙ ap pos q)
+      sym
+      (ap (λ (z : ℤ). pos b +ℤ z) v ∙ +ℤ-comm (pos b) (subℕ r 32768) ∙ sub-sum r 32768 (r + b) (pos b) refl
+      ∙ subℕ-pos (r + b) 32768 (omega arith) ∙ ap pos q)
 
   raised-none : raisedTo ds 0 ≡ 0
   unfolding raisedTo
@@ -105,8 +109,8 @@ module _ (ds : List ℕ) (number : (k : ℕ) → k < 208 → getD ds k 0 < 65536
         at = λ j. b + raisedTo ds j - 32768 * j;
         first = omega (arith, raised-none);
         last = refl;
-        step = λ j k. rises (b + raisedTo ds j - 32768 * j) (b + raisedTo ds (j + 1) - 32768 * (j + 1)) (bitXor (getD ds (16 + j) 0) 32768) (signed 2 (getD ds (16 + j) 0)) (raised-is (16 + j) (omega arith))
-            (omega (arith, raised-more ds j));
+        step = λ j k. rises (b + raisedTo ds j - 32768 * j) (b + raisedTo ds (j + 1) - 32768 * (j + 1)) (bitXor (getD ds (16 + j) 0) 32768)
+            (signed 2 (getD ds (16 + j) 0)) (raised-is (16 + j) (omega arith)) (omega (arith, raised-more ds j));
         inside = λ j k. let m = raised-most j k in (omega arith, omega arith);
       }
 

@@ -107,9 +107,13 @@ module _ (m : ℕ) (os : List ℕ) (i : ℕ) where
   -- sums of twice as many
   pub windows-twice : (w n size : ℕ) (xs before ys : List ℕ) → w ≤ 8 → Windows m w os i n xs → ((k : ℕ) → k < 16 → getD before k 0 ≡ 0)
       → Written (backAt m xs w) n size before ys → Windows m (w + w) os i n ys
-  windows-twice w n size xs before ys l X zeros W =
-      windows-by (w + w) n ys (λ k h. W .same k h ∙ zeros k h)
-      (λ j h. window-mod (window-join (window-at X (16 + j - (w + w)) (16 + j - w) (omega arith) (omega arith)) (window-at X (16 + j - w) (16 + j) (omega arith) (omega arith))) (W .is j h))
+  windows-twice w n size xs before ys l X zeros W = windows-by (w + w) n ys (λ k h. W .same k h ∙ zeros k h) each
+    where
+      each : (j : ℕ) → j < n → Window m os i (16 + j - (w + w)) (16 + j) (getD ys (16 + j) 0)
+      each j h =
+          let a = window-at X (16 + j - (w + w)) (16 + j - w) (omega arith) (omega arith) in
+          let b = window-at X (16 + j - w) (16 + j) (omega arith) (omega arith) in
+          window-mod (window-join a b) (W .is j h)
 
 -- the numbers from 16 on are themselves the sums of one
 pub windows-one : (m : ℕ) (ds : List ℕ) (n : ℕ) → ((k : ℕ) → k < 16 → getD ds k 0 ≡ 0) → Windows m 1 ds 16 n ds
@@ -276,4 +280,5 @@ module _ (k : ℕ) (os : List ℕ) (i c n : ℕ) (levels : List ℕ) (L : Levels
   pub level-step : (base j : ℕ) → j < n → getD os (i + j) 0 < 256 ^ k
       → pos (base + getD levels (15 + (j + 1)) 0) ≡ pos (base + getD levels (15 + j) 0) +ℤ signed k (getD os (i + j) 0)
   level-step base j h b =
-      signed-step k base (getD levels (15 + j) 0) (getD levels (15 + (j + 1)) 0) (getD os (i + j) 0) (level-low j (omega arith)) (level-low (j + 1) (omega arith)) b (follows j h)
+      signed-step k base (getD levels (15 + j) 0) (getD levels (15 + (j + 1)) 0) (getD os (i + j) 0) (level-low j (omega arith))
+      (level-low (j + 1) (omega arith)) b (follows j h)

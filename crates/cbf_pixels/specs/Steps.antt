@@ -13,7 +13,7 @@ use lib.IntN.{ℤ, pos, negsuc, subℕ, natAbs}
 use lib.Signed.{mag, shrZ}
 use Rattle.cbf_pixels.specs.Octets.{pick}
 use Rattle.cbf_pixels.specs.Pixels as P
-use Rattle.cbf_pixels.specs.Pixels.{Read, run-out, got, readBy, widths, within, allWithin, unpackFrom, packFrom, packByteOffset, least, greatest}
+use Rattle.cbf_pixels.specs.Pixels.{run-out, got, readBy, widths, within, allWithin, unpackFrom, packFrom, packByteOffset, least, greatest}
 use Rattle.cbf_pixels.specs.Uncompressed.{octetsPer}
 use Rattle.cbf_pixels.specs.Answers.{isSome}
 use Rattle.cbf_pixels.specs.declared.ElementType.{ElementType}
@@ -129,12 +129,12 @@ pub record Glides (os : List ℕ) (i n total : ℕ) : Type 0 where
 unfoldable pub Stays : List ℕ → ℕ → ℕ → ℕ → ℕ → Type 0
 Stays os i n c r = (top base : ℕ) → biasedLeast ≤ base → base + 127 ≤ top → Passes top os (base + c) i n (base + r) (i + n)
 
--- a pixel from which the pixels up to 127 above it are in the type, and biased is one of them
-pub record Base (top biased base : ℕ) : Type 0 where
+-- a pixel from which as many pixels as two halves are in the type, and biased is one of them
+pub record Base (top biased half base : ℕ) : Type 0 where
   pub least : biasedLeast ≤ base
-  pub greatest : base + 127 ≤ top
+  pub greatest : base + 2 * half ≤ top + 1
   pub low : base ≤ biased
-  pub high : biased < base + 128
+  pub high : biased < base + 2 * half
 
 -- what a step of the first pass answers: 0 for pixels that do not unpack, else where the n pixels lead. Octets for 32 pixels
 -- of 15 are there, or nothing is behind the octets.

@@ -1,8 +1,8 @@
 // 192 octets at once where some are escapes but none stands within two behind another: each escape is then followed by the
 // two octets of its difference. What an octet adds to the pixel before it is a number of 16 bits: a plain octet its
 // difference, an octet two behind an escape the difference that ends there, any other octet 0.
+use crate::validate;
 ghost use mathlib.Core.Path.{_≡_};
-ghost use mathlib.Core.Bool.{true};
 ghost use mathlib.Core.List.{List};
 ghost use Prim.Native.Nat.{ℕ, _+_, _*_, _-_, _<_, _≤_};
 ghost use lib.Bits.{bitXor};
@@ -146,7 +146,8 @@ fn add_back(numbers: &[u16; 208], back: usize, sums: &mut [u16; 208])
 // From 16 on, the pixel after each octet, modulo 65,536, by sums of four; the bitwise or of them.
 fn levels(fours: &[u16; 208], pixels: &mut [u16; 208]) -> u16
     requires { ⌜ length (now pixels) ≡ 208 ⌝ }
-    ensures { λ r. ⌜ ((ds : List ℕ) (c : ℕ) → Windows 65536 4 ds 16 192 (now (fours .entry)) → Levels 65536 ds 16 c 0 (now (pixels .entry)) → Levels 65536 ds 16 c 192 (now (pixels .exit))) ⌝ }
+    ensures { λ r. ⌜ ((ds : List ℕ) (c : ℕ) → Windows 65536 4 ds 16 192 (now (fours .entry))
+        → Levels 65536 ds 16 c 0 (now (pixels .entry)) → Levels 65536 ds 16 c 192 (now (pixels .exit))) ⌝ }
     ensures { λ r. ⌜ ((k : ℕ) → k < 192 → getD (now (pixels .exit)) (16 + k) 0 ≤ r) ⌝ }
 {
     let mut all: u16 = 0;
@@ -209,50 +210,20 @@ fn differences_of(octets: &[u8], i: usize, marks: &[u8; 208], added: &mut [u16; 
     differences(&low, &high, added);
 }
 
-// Whether 192 differences of two octets cannot leave the type.
-fn is_far(biased: u64, top: u64) -> bool
-    requires { ⌜ (biased ≤ top) × (top < 1103806595072) ⌝ }
-    ensures { λ r. ⌜ (r ≡ true → (biasedLeast + 6291456 ≤ biased) × (biased + 6291456 ≤ top)) ⌝ }
-{
-    if biased < 1099511627776 + 6291456 {
-        return false;
-    }
-    biased + 6291456 <= top
-}
-
-fn base_of(biased: u64, top: u64) -> u64
-    requires { ⌜ Top top × Between top biased × (biasedLeast + 65535 ≤ top) ⌝ }
-    ensures { λ r. ⌜ (biasedLeast ≤ r) × (r + 32767 ≤ top) × (r ≤ biased) × (biased < r + 32768) ⌝ }
-{
-    if biased < 1099511627776 + 16384 {
-        return 1099511627776;
-    }
-    if top < biased + 16383 {
-        return top - 32767;
-    }
-    biased - 16384
-}
-
-fn wide16(n: u16) -> u64
-    ensures { λ r. ⌜ r ≡ n ⌝ }
-{
-    n as u64
-}
-
 // The biased pixel after the octets, 0 where it is not known.
 fn last_pixel(added: &mut [u16; 208], biased: u64, top: u64) -> u64
     requires { ⌜ Top top × Between top biased × (biasedLeast + 65535 ≤ top) × Addends (now added) ⌝ }
     ensures { λ r. ⌜ ((r ≡ 0 → ⊥) → Walk (now (added .entry)) biasedLeast top biased r) ⌝ }
 {
-    if is_far(biased, top) {
+    if validate::is_far(biased, top, 6291456) {
         return biased + total(added) as u64 - 6291456;
     }
-    let base = base_of(biased, top);
+    let base = validate::base_of(biased, top, 16384);
     let above = near(added, (biased - base) as u16);
     if 32767 < above {
         return 0;
     }
-    base + wide16(above)
+    base + above as u64
 }
 
 // How many of the 192 octets are of whole differences.

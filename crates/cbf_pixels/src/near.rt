@@ -43,7 +43,8 @@ fn windows(octets: &[u8], i: usize, n: usize, sums: &mut [u8; 1040])
 // From 16 on, the pixel after each octet, modulo 256; the bitwise or of them.
 fn levels(sums: &[u8; 1040], n: usize, pixels: &mut [u8; 1040]) -> u8
     requires { ⌜ (n ≤ 1024) × (length (now pixels) ≡ 1040) ⌝ }
-    ensures { λ r. ⌜ ((os : List ℕ) (i c : ℕ) → Windows 256 4 os i n (now (sums .entry)) → Levels 256 os i c 0 (now (pixels .entry)) → Levels 256 os i c n (now (pixels .exit))) ⌝ }
+    ensures { λ r. ⌜ ((os : List ℕ) (i c : ℕ) → Windows 256 4 os i n (now (sums .entry))
+        → Levels 256 os i c 0 (now (pixels .entry)) → Levels 256 os i c n (now (pixels .exit))) ⌝ }
     ensures { λ r. ⌜ ((k : ℕ) → k < n → getD (now (pixels .exit)) (16 + k) 0 ≤ r) ⌝ }
 {
     let mut all: u8 = 0;

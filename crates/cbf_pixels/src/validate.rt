@@ -9,13 +9,14 @@ use crate::plain;
 use crate::turn;
 ghost use mathlib.Core.Path.{_≡_};
 ghost use mathlib.Core.Bool.{true};
-ghost use Prim.Native.Nat.{ℕ, _+_, _%_, _<_, _≤_, _^_};
+ghost use Prim.Native.Nat.{_+_, _*_, _%_, _<_, _≤_, _^_};
 ghost use lib.ListN.{length};
 ghost use lib.IntN.{pos, subℕ, natAbs, _+ℤ_};
 ghost use Rattle.cbf_pixels.specs.Octets.{signed};
 ghost use Rattle.cbf_pixels.specs.Pixels.{within, least, greatest, unpackByteOffset};
 ghost use Rattle.cbf_pixels.specs.Answers.{isSome};
-ghost use Rattle.cbf_pixels.specs.Steps.{Whole, Plain, Glides, biasedLeast, biasedZero, biasedGreatest, pixelAt, Top, Between, Base, Passes, Passed, Adds, Summable, ValidPart};
+ghost use Rattle.cbf_pixels.specs.Steps.{Plain, Glides, biasedLeast, biasedZero, biasedGreatest, pixelAt, Top, Between};
+ghost use Rattle.cbf_pixels.specs.Steps.{Base, Passes, Passed, Adds, Summable, ValidPart};
 
 const BIASED_LEAST: u64 = 1099511627776;
 
@@ -132,18 +133,18 @@ fn at_most_1024(n: usize) -> usize
     if n < 1024 { n } else { 1024 }
 }
 
-// Where 128 numbers of the type start, biased among them and as far from their ends as can be.
-fn base_of(biased: u64, top: u64) -> u64
-    requires { ⌜ Top top × Between top biased ⌝ }
-    ensures { λ r. ⌜ Base top biased r ⌝ }
+// Where two halves of numbers of the type start, biased among them and as far from their ends as can be.
+pub fn base_of(biased: u64, top: u64, half: u64) -> u64
+    requires { ⌜ Top top × Between top biased × (0 < half) × (biasedLeast + 2 * half ≤ top + 1) ⌝ }
+    ensures { λ r. ⌜ Base top biased half r ⌝ }
 {
-    if biased < BIASED_LEAST + 64 {
+    if biased < BIASED_LEAST + half {
         return BIASED_LEAST;
     }
-    if top < biased + 63 {
-        return top - 127;
+    if top < biased + (half - 1) {
+        return top - (2 * half - 1);
     }
-    biased - 64
+    biased - half
 }
 
 // The same, or 0 where it is not known: in each part of the run the pixels have to stay near the one before it.
@@ -155,7 +156,7 @@ fn pass_near(octets: &[u8], i: usize, n: usize, biased: u64, top: u64) -> u64
     let mut j: usize = 0;
     while j < n {
         let m = at_most_1024(n - j);
-        let base = base_of(last, top);
+        let base = base_of(last, top, 64);
         let above = near::near(octets, i + j, m, (last - base) as u8);
         if 127 < above {
             return 0;
@@ -176,15 +177,15 @@ fn is_long(i: usize, n: usize) -> bool
     3 <= i
 }
 
-// Whether 4,096 pixels of plain octets cannot leave the type.
-fn is_far(biased: u64, top: u64) -> bool
-    requires { ⌜ biased ≤ 2 ^ 42 ⌝ }
-    ensures { λ r. ⌜ (r ≡ true → (biasedLeast + 524288 ≤ biased) × (biased + 524288 ≤ top)) ⌝ }
+// Whether both ends of the type are distance away, or more.
+pub fn is_far(biased: u64, top: u64, distance: u64) -> bool
+    requires { ⌜ (biased ≤ 2 ^ 42) × (distance ≤ 2 ^ 32) ⌝ }
+    ensures { λ r. ⌜ (r ≡ true → (biasedLeast + distance ≤ biased) × (biased + distance ≤ top)) ⌝ }
 {
-    if biased < BIASED_LEAST + 524288 {
+    if biased < BIASED_LEAST + distance {
         return false;
     }
-    biased + 524288 <= top
+    biased + distance <= top
 }
 
 // The same, where the run is at most 4,096 octets long.
@@ -192,7 +193,7 @@ pub fn pass_plain(octets: &[u8], i: usize, n: usize, biased: u64, top: u64) -> u
     requires { ⌜ Top top × Between top biased × (i + n ≤ length (now octets)) × Plain (now octets) i n × (n % 32 ≡ 0) × (n ≤ 4096) ⌝ }
     ensures { λ r. ⌜ Passed top (now (octets .entry)) biased i n r (i + n) ⌝ }
 {
-    if is_far(biased, top) {
+    if is_far(biased, top, 524288) {
         let total = sum_run(octets, i, n) as u64;
         return biased + total - 128 * n as u64;
     }

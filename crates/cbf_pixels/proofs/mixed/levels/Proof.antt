@@ -12,7 +12,8 @@ use Rattle.cbf_pixels.proofs.mixed.levels.Tie as tie
 
 abbrev Inv-loop : tie.InvT-loop
 Inv-loop fours pixels₀ all₀ j₀ pixels all j =
-    (j ≤ 192) × (length pixels ≡ 208) × ((ds : List ℕ) (c : ℕ) → Windows 65536 4 ds 16 192 fours → Levels 65536 ds 16 c 0 pixels₀ → Levels 65536 ds 16 c j pixels)
+    (j ≤ 192) × (length pixels ≡ 208)
+    × ((ds : List ℕ) (c : ℕ) → Windows 65536 4 ds 16 192 fours → Levels 65536 ds 16 c 0 pixels₀ → Levels 65536 ds 16 c j pixels)
     × ((k : ℕ) → k < j → getD pixels (16 + k) 0 ≤ all)
 
 abbrev μ-loop : tie.MeasureT-loop

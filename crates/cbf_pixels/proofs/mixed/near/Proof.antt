@@ -26,10 +26,12 @@ returns-2 c = λ h.
     let pairs = c .before .before .before .before .before .before .before .add-back in
     let fours = c .before .before .before .before .add-back2 in
     let L = c .before .levels in
-    let two = windows-twice 65536 ds 16 1 192 208 ds (replicate 208 0) (pairs .last .1 .1 .0) (omega arith) (windows-one 65536 ds 192 (A .none)) zeros (pairs .ensures) in
+    let one = windows-one 65536 ds 192 (A .none) in
+    let two = windows-twice 65536 ds 16 1 192 208 ds (replicate 208 0) (pairs .last .1 .1 .0) (omega arith) one zeros (pairs .ensures) in
     let four = windows-twice 65536 ds 16 2 192 208 (pairs .last .1 .1 .0) ds (fours .last .1 .1 .0) (omega arith) two (A .none) (fours .ensures) in
     let start = levels-start 65536 ds 16 (s .args .c) 208 (omega (arith, s .pre .0)) (omega arith) in
-    walk-near ds (s .args .c) (L .last .1 .0) (L .ensures .0 ds (s .args .c) four start) (λ k b. omega (arith, L .ensures .1 k b, c .if1 .left)) (s .pre .0) (A .number)
+    walk-near ds (s .args .c) (L .last .1 .0) (L .ensures .0 ds (s .args .c) four start)
+    (λ k b. omega (arith, L .ensures .1 k b, c .if1 .left)) (s .pre .0) (A .number)
 
 pub near-spec : {M : Type 1} → statement M
 near-spec = tie.close (tie.spec add-back-requires add-back-requires-2 (λ c κs. search needs) returns (λ c. search needs) returns-2)

@@ -3,9 +3,6 @@ use native.Mathlib.Omega.{arith}
 use borrow.Author.Needs.{needs}
 use Rattle.cbf_pixels.proofs.near.add4.Statement.{statement}
 use Rattle.cbf_pixels.proofs.near.add4.Tie as tie
-use Rattle.cbf_pixels.proofs.near.add4.Reads as reads
-use Rattle.cbf_pixels.proofs.near.add4.Lts as lts
-use Rattle.std.proofs.num.wrapping_add_u8.Reads as wrapping-add-u8-reads
 
 -- src/near.rt:12:9
 wrapping-add-u8-requires : tie.Need-wrapping-add-u8-requires
@@ -21,7 +18,7 @@ wrapping-add-u8-requires-3 c κs = search needs
 
 -- src/near.rt:9:1
 returns : tie.Need-returns
-returns c = let x = c .before .before .wrapping-add-u8 .ensures in let y = c .before .wrapping-add-u82 .ensures in let z = c .wrapping-add-u83 .ensures in omega arith
+returns c = omega (arith, c .before .before .wrapping-add-u8 .ensures, c .before .wrapping-add-u82 .ensures, c .wrapping-add-u83 .ensures)
 
 pub add4-spec : {M : Type 1} → statement M
 add4-spec =

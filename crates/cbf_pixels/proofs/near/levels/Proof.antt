@@ -12,7 +12,8 @@ use Rattle.cbf_pixels.proofs.near.levels.Tie as tie
 
 abbrev Inv-loop : tie.InvT-loop
 Inv-loop sums n pixels₀ all₀ j₀ pixels all j =
-    (j ≤ n) × (length pixels ≡ 1040) × ((os : List ℕ) (i c : ℕ) → Windows 256 4 os i n sums → Levels 256 os i c 0 pixels₀ → Levels 256 os i c j pixels)
+    (j ≤ n) × (length pixels ≡ 1040)
+    × ((os : List ℕ) (i c : ℕ) → Windows 256 4 os i n sums → Levels 256 os i c 0 pixels₀ → Levels 256 os i c j pixels)
     × ((k : ℕ) → k < j → getD pixels (16 + k) 0 ≤ all)
 
 abbrev μ-loop : tie.MeasureT-loop

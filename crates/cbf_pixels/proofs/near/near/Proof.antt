@@ -31,8 +31,9 @@ returns-2 c = λ h.
     let p = c .before .before .before .before .before .before .before .pre in
     let E = c .before .levels .ensures in
     let t = c .if1 .left in
+    let start = levels-start 256 (a .octets .now) (a .i) (a .c) 1040 (omega (arith, p .4)) (omega arith) in
     stays (a .octets .now) (a .i) (a .n) (a .c) (c .before .levels .last .1 .1 .0)
-    (E .0 (a .octets .now) (a .i) (a .c) (c .before .before .before .before .windows .ensures) (levels-start 256 (a .octets .now) (a .i) (a .c) 1040 (omega (arith, p .4)) (omega arith)))
+    (E .0 (a .octets .now) (a .i) (a .c) (c .before .before .before .before .windows .ensures) start)
     (λ k b. omega (arith, E .1 k b)) (p .4) (p .5) (p .1) (λ k. omega (arith, c .before .before .before .before .before .before .shared-slice-known .given k))
 
 pub near-spec : {M : Type 1} → statement M

@@ -56,8 +56,10 @@ returns c =
     let a = c .before .before .before .before .before .before .before .before .before .before .before .args in
     let p = c .before .before .before .before .before .before .before .before .before .before .before .pre in
     let F = c .before .before .before .before .before .before .before .before .fours in
-    windows-of (a .octets .now) (a .i) (a .n) (a .sums .now) (F .last .1 .1 .1 .0) (F .ensures) (p .5) (p .0) (getD (a .octets .now) (a .i) 0) (c .before .before .before .before .add4 .result) (c .add42 .result)
-    refl (c .before .before .before .before .add4 .ensures) (c .add42 .ensures)
+    let two = c .before .before .before .before .add4 in
+    let three = c .add42 in
+    windows-of (a .octets .now) (a .i) (a .n) (a .sums .now) (F .last .1 .1 .1 .0) (F .ensures) (p .5) (p .0) (getD (a .octets .now) (a .i) 0)
+    (two .result) (three .result) refl (two .ensures) (three .ensures)
 
 pub windows-spec : {M : Type 1} → statement M
 windows-spec =

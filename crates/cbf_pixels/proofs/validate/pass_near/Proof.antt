@@ -2,7 +2,7 @@
 use borrow.Author.Needs.{needs}
 use native.Mathlib.Omega.{arith}
 use Prim.Native.Nat.{ℕ, _+_, _-_, _%_, _<_, _≤_}
-use mathlib.Core.Path.{_≡_, refl, sym, ap, subst}
+use mathlib.Core.Path.{_≡_, refl, sym, subst}
 use Rattle.cbf_pixels.specs.Steps.{Between, Passes, Stays}
 use Rattle.cbf_pixels.proofs.Passing.{passes-none, passes-passes, top-small}
 use Rattle.cbf_pixels.proofs.PlainOctets.{plain-part}
@@ -19,7 +19,8 @@ loop-holds : tie.Need-loop-holds Inv-loop μ-loop
 loop-holds c =
     let a = c .before .args in
     let e : a .i ≡ a .i + 0 = omega arith in
-    (omega arith, refl, c .before .pre .1, subst (Passes (a .top) (a .octets .now) (a .biased) (a .i) 0 (a .biased)) e (passes-none (a .top) (a .octets .now) (a .biased) (a .i)))
+    let start = subst (Passes (a .top) (a .octets .now) (a .biased) (a .i) 0 (a .biased)) e (passes-none (a .top) (a .octets .now) (a .biased) (a .i)) in
+    (omega arith, refl, c .before .pre .1, start)
 
 sub-at-most-1024 : tie.Need-sub-at-most-1024 Inv-loop μ-loop
 sub-at-most-1024 c = c .before .loop .inv .0
@@ -28,7 +29,9 @@ at-most-1024-requires : tie.Need-at-most-1024-requires Inv-loop μ-loop
 at-most-1024-requires c κs = search needs
 
 base-of-requires : tie.Need-base-of-requires Inv-loop μ-loop
-base-of-requires c κs = (c .before .before .before .before .pre .0, c .before .before .loop .inv .2)
+base-of-requires c κs =
+    let T = c .before .before .before .before .pre .0 in
+    (T, c .before .before .loop .inv .2, omega arith, omega (arith, T .size, T .large))
 
 add-near : tie.Need-add-near Inv-loop μ-loop
 add-near c = omega (arith, c .before .before .before .before .before .pre .2, c .before .before .before .loop .inv .0)
@@ -40,7 +43,8 @@ cast-near : tie.Need-cast-near Inv-loop μ-loop
 cast-near c = let h = c .base-of .ensures .high in record { fits = omega arith }
 
 -- the next part: how long it is
-module _ (n j m : ℕ) (whole : n % 32 ≡ 0) (done : j % 32 ≡ 0) (more : j < n) (P : (m ≤ n - j) × (m ≤ 1024) × (0 < n - j → 0 < m) × ((n - j) % 32 ≡ 0 → m % 32 ≡ 0)) where
+module _ (n j m : ℕ) (whole : n % 32 ≡ 0) (done : j % 32 ≡ 0) (more : j < n)
+    (P : (m ≤ n - j) × (m ≤ 1024) × (0 < n - j → 0 < m) × ((n - j) % 32 ≡ 0 → m % 32 ≡ 0)) where
   blocks : m % 32 ≡ 0
   blocks = P .3 (omega arith)
 
@@ -90,7 +94,8 @@ loop-less c =
     let p = c .before .before .before .before .before .before .before .before .pre in
     let l = c .before .before .before .before .before .before .loop in
     let t = c .before .before .before .before .before .loop-test .taken in
-    let s = some (a .n) (l .j) (c .before .before .before .before .at-most-1024 .result) (p .4) (l .inv .1) t (c .before .before .before .before .at-most-1024 .ensures) in
+    let m = c .before .before .before .before .at-most-1024 in
+    let s = some (a .n) (l .j) (m .result) (p .4) (l .inv .1) t (m .ensures) in
     omega arith
 
 loop-again : tie.Need-loop-again Inv-loop μ-loop
@@ -109,7 +114,7 @@ loop-again c =
     let r = c .before .before .near .result in
     let low : r < 128 = omega (arith, c .before .if1 .left) in
     let least = B .least in
-    let greatest = B .greatest in
+    let greatest : base + 127 ≤ a .top = omega (arith, B .greatest) in
     let under = B .low in
     let w = c .wide .ensures .0 in
     let from : base + (l .last - base) ≡ l .last = omega arith in

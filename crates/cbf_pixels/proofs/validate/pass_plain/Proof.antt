@@ -32,7 +32,8 @@ returns c =
     let t = c .sum-run .result in
     let most = G .most in
     let F = c .before .before .is-far .ensures (c .before .if1 .taken) in
-    passed-to (a .top) (a .octets .now) (a .biased) (a .i) (a .n) (a .biased + t - 128 * a .n) (a .i + a .n) (omega (arith, p .5, F .0), omega (arith, p .5, F .1))
+    passed-to (a .top) (a .octets .now) (a .biased) (a .i) (a .n) (a .biased + t - 128 * a .n) (a .i + a .n)
+    (omega (arith, p .5, F .0), omega (arith, p .5, F .1))
     (G .leads (a .top) (a .biased) (omega (arith, p .5, F .0)) (omega (arith, p .5, F .1))) (p .2)
 
 is-long-requires : tie.Need-is-long-requires
