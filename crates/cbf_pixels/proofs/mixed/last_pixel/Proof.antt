@@ -57,5 +57,6 @@ returns-3 c = λ _.
 pub last-pixel-spec : {M : Type 1} → statement M
 last-pixel-spec =
     tie.close
-    (tie.spec is-far-requires (λ c κs. search needs) (λ c. search needs) add-result sub-result returns base-of-requires (λ c. search needs)
-    (λ c. search needs) near-requires returns-2 (λ c. search needs) add-result-2 returns-3)
+    (tie.spec
+    is-far-requires (λ c κs. search needs) (λ c. search needs) add-result sub-result returns base-of-requires
+    (λ c. search needs) (λ c. search needs) near-requires returns-2 (λ c. search needs) add-result-2 returns-3)

@@ -34,4 +34,7 @@ returns-2 c = λ h.
     (λ k b. omega (arith, L .ensures .1 k b, c .if1 .left)) (s .pre .0) (A .number)
 
 pub near-spec : {M : Type 1} → statement M
-near-spec = tie.close (tie.spec add-back-requires add-back-requires-2 (λ c κs. search needs) returns (λ c. search needs) returns-2)
+near-spec =
+    tie.close
+    (tie.spec
+    add-back-requires add-back-requires-2 (λ c κs. search needs) returns (λ c. search needs) returns-2)

@@ -25,7 +25,10 @@ last-pixel-requires : tie.Need-last-pixel-requires
 last-pixel-requires c κs =
     let s = c .before .before .before .before .before .before .before .before .before .before in
     let k = c .before .before .before .before .before .before .before .before .before .shared-slice-known in
-    (s .pre .0, s .pre .1, s .pre .2, addends (s .args .octets .now) (s .args .i) (c .before .before .before .before .before .before .before .mark-each .last .1 .1 .0) (c .before .differences-of .last .1 .1 .1 .0) (λ n. omega (arith, k .given n)) (c .before .differences-of .ensures))
+    let ms = c .before .before .before .before .before .before .before .mark-each .last .1 .1 .0 in
+    let d = c .before .differences-of in
+    let A = addends (s .args .octets .now) (s .args .i) ms (d .last .1 .1 .1 .0) (λ n. omega (arith, k .given n)) (d .ensures) in
+    (s .pre .0, s .pre .1, s .pre .2, A)
 
 returns-2 : tie.Need-returns-2
 returns-2 c = λ h. let y : ⊥ = omega arith in absurd y
@@ -48,13 +51,16 @@ returns-3 c = λ _.
     let last = c .before .before .before .before .before .last-pixel in
     let whole = c .before .before .whole-octets in
     let W = last .ensures (c .before .before .before .before .if2 .left) in
-    let apart = c .before .before .before .before .before .before .before .before .before .before .before .crowded .ensures (c .before .before .before .before .before .before .before .before .before .before .if1 .left) in
+    let none = c .before .before .before .before .before .before .before .before .before .before .if1 .left in
+    let apart = c .before .before .before .before .before .before .before .before .before .before .before .crowded .ensures none in
     let P = mixed-passes (s .args .top) os (s .args .i) ms ds (s .args .biased) (last .result) (marked _ _ _ (m .ensures)) apart (d .ensures .is)
     (λ n. omega (arith, k .given n)) (s .pre .3) (s .pre .4) W in
-    let P′ = subst (λ (n : ℕ). Passes (s .args .top) os (s .args .biased) (s .args .i) n (last .result) (s .args .i + whole .result)) (sym (c .ends .ensures .0))
-    (subst (λ (n : ℕ). Passes (s .args .top) os (s .args .biased) (s .args .i) (endsTo ms 192) (last .result) (s .args .i + n)) (sym (whole .ensures .0)) P) in (
+    let Q = subst (λ (n : ℕ). Passes (s .args .top) os (s .args .biased) (s .args .i) (endsTo ms 192) (last .result) (s .args .i + n))
+    (sym (whole .ensures .0)) P in
+    let R = subst (λ (n : ℕ). Passes (s .args .top) os (s .args .biased) (s .args .i) n (last .result) (s .args .i + whole .result))
+    (sym (c .ends .ensures .0)) Q in (
       c .ends .ensures .1,
-      passed-to (s .args .top) os (s .args .biased) (s .args .i) (c .ends .result) (last .result) (s .args .i + whole .result) (walk-between W) P′
+      passed-to (s .args .top) os (s .args .biased) (s .args .i) (c .ends .result) (last .result) (s .args .i + whole .result) (walk-between W) R
           (omega (arith, whole .ensures .1, s .pre .4)),
     )
 

@@ -40,9 +40,6 @@ sub-add4-3 c = omega (arith, c .before .before .before .before .before .before .
 shared-slice-read-add4-4 : tie.Need-shared-slice-read-add4-4 Inv-loop μ-loop
 shared-slice-read-add4-4 c = omega (arith, c .before .before .before .before .before .before .before .pre .1)
 
-add4-requires : tie.Need-add4-requires Inv-loop μ-loop
-add4-requires c κs = search needs
-
 add-sums : tie.Need-add-sums Inv-loop μ-loop
 add-sums c = omega (arith, c .before .before .before .before .before .before .before .before .pre .2)
 
@@ -51,9 +48,6 @@ element-write-sums c = omega (arith, c .before .before .before .before .before .
 
 add-j : tie.Need-add-j Inv-loop μ-loop
 add-j c = omega (arith, c .before .before .before .before .before .before .before .before .pre .2)
-
-loop-less : tie.Need-loop-less Inv-loop μ-loop
-loop-less c = omega arith
 
 loop-again : tie.Need-loop-again Inv-loop μ-loop
 loop-again c =
@@ -68,21 +62,6 @@ pub fours-spec : {M : Type 1} → statement M
 fours-spec =
     tie.close
     (tie.spec
-    Inv-loop
-    μ-loop
-    loop-holds
-    add-k
-    shared-slice-read-add4
-    sub-add4
-    shared-slice-read-add4-2
-    sub-add4-2
-    shared-slice-read-add4-3
-    sub-add4-3
-    shared-slice-read-add4-4
-    add4-requires
-    add-sums
-    element-write-sums
-    add-j
-    loop-less
-    loop-again
-    returns)
+    Inv-loop μ-loop loop-holds add-k shared-slice-read-add4 sub-add4 shared-slice-read-add4-2 sub-add4-2
+    shared-slice-read-add4-3 sub-add4-3 shared-slice-read-add4-4 (λ c κs. search needs) add-sums
+    element-write-sums add-j (λ c. omega arith) loop-again returns)

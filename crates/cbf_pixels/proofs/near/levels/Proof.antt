@@ -46,14 +46,8 @@ add-add4-4 c = omega (arith, c .before .before .before .before .before .pre .0)
 element-copy-out-add4-4 : tie.Need-element-copy-out-add4-4 Inv-loop μ-loop
 element-copy-out-add4-4 c = omega (arith, c .before .before .before .before .before .pre .0)
 
-add4-requires : tie.Need-add4-requires Inv-loop μ-loop
-add4-requires c κs = search needs
-
 element-copy-out-wrapping-add-u8 : tie.Need-element-copy-out-wrapping-add-u8 Inv-loop μ-loop
 element-copy-out-wrapping-add-u8 c = omega (arith, c .before .before .before .before .before .before .before .pre .0)
-
-wrapping-add-u8-requires : tie.Need-wrapping-add-u8-requires Inv-loop μ-loop
-wrapping-add-u8-requires c κs = search needs
 
 add-pixels : tie.Need-add-pixels Inv-loop μ-loop
 add-pixels c = omega (arith, c .before .before .before .before .before .before .before .before .before .pre .0)
@@ -63,9 +57,6 @@ element-write-pixels c = omega (arith, c .before .before .before .before .before
 
 add-j : tie.Need-add-j Inv-loop μ-loop
 add-j c = omega (arith, c .before .before .before .before .before .before .before .before .before .pre .0)
-
-loop-less : tie.Need-loop-less Inv-loop μ-loop
-loop-less c = omega arith
 
 loop-again : tie.Need-loop-again Inv-loop μ-loop
 loop-again c =
@@ -94,23 +85,7 @@ pub levels-spec : {M : Type 1} → statement M
 levels-spec =
     tie.close
     (tie.spec
-    Inv-loop
-    μ-loop
-    loop-holds
-    add-add4
-    element-copy-out-add4
-    add-add4-2
-    element-copy-out-add4-2
-    add-add4-3
-    element-copy-out-add4-3
-    add-add4-4
-    element-copy-out-add4-4
-    add4-requires
-    element-copy-out-wrapping-add-u8
-    wrapping-add-u8-requires
-    add-pixels
-    element-write-pixels
-    add-j
-    loop-less
-    loop-again
-    returns)
+    Inv-loop μ-loop loop-holds add-add4 element-copy-out-add4 add-add4-2 element-copy-out-add4-2 add-add4-3
+    element-copy-out-add4-3 add-add4-4 element-copy-out-add4-4 (λ c κs. search needs)
+    element-copy-out-wrapping-add-u8 (λ c κs. search needs) add-pixels element-write-pixels add-j
+    (λ c. omega arith) loop-again returns)

@@ -13,17 +13,8 @@ windows-requires c κs =
     let p = c .before .before .pre in
     (p .0, p .1, p .2, p .3, refl, λ k h. getD-replicate 1040 k 0 0 (omega arith))
 
-levels-requires : tie.Need-levels-requires
-levels-requires c κs = search needs
-
 returns : tie.Need-returns
 returns c = λ h. let y : ⊥ = omega arith in absurd y
-
-add-result : tie.Need-add-result
-add-result c = search needs
-
-array-read-result : tie.Need-array-read-result
-array-read-result c = search needs
 
 returns-2 : tie.Need-returns-2
 returns-2 c = λ h.
@@ -39,4 +30,5 @@ returns-2 c = λ h.
 pub near-spec : {M : Type 1} → statement M
 near-spec =
     tie.close
-    (tie.spec windows-requires levels-requires returns add-result array-read-result returns-2)
+    (tie.spec
+    windows-requires (λ c κs. search needs) returns (λ c. search needs) (λ c. search needs) returns-2)

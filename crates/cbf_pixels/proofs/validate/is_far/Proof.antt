@@ -4,17 +4,8 @@ use borrow.Author.Needs.{needs}
 use Rattle.cbf_pixels.proofs.validate.is_far.Statement.{statement}
 use Rattle.cbf_pixels.proofs.validate.is_far.Tie as tie
 
-add-if1 : tie.Need-add-if1
-add-if1 c = search needs
-
 returns : tie.Need-returns
 returns c = λ e. never e
 
-add-result : tie.Need-add-result
-add-result c = search needs
-
-returns-2 : tie.Need-returns-2
-returns-2 c = search needs
-
 pub is-far-spec : {M : Type 1} → statement M
-is-far-spec = tie.close (tie.spec add-if1 returns add-result returns-2)
+is-far-spec = tie.close (tie.spec (λ c. search needs) returns (λ c. search needs) (λ c. search needs))

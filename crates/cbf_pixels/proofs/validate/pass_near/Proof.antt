@@ -25,9 +25,6 @@ loop-holds c =
 sub-at-most-1024 : tie.Need-sub-at-most-1024 Inv-loop μ-loop
 sub-at-most-1024 c = c .before .loop .inv .0
 
-at-most-1024-requires : tie.Need-at-most-1024-requires Inv-loop μ-loop
-at-most-1024-requires c κs = search needs
-
 base-of-requires : tie.Need-base-of-requires Inv-loop μ-loop
 base-of-requires c κs =
     let T = c .before .before .before .before .pre .0 in
@@ -71,9 +68,6 @@ near-requires c κs =
 
 returns : tie.Need-returns Inv-loop μ-loop
 returns c = λ z. absurd (z refl)
-
-wide-requires : tie.Need-wide-requires Inv-loop μ-loop
-wide-requires c κs = search needs
 
 add-last : tie.Need-add-last Inv-loop μ-loop
 add-last c =
@@ -140,20 +134,5 @@ pub pass-near-spec : {M : Type 1} → statement M
 pass-near-spec =
     tie.close
     (tie.spec
-    Inv-loop
-    μ-loop
-    loop-holds
-    sub-at-most-1024
-    at-most-1024-requires
-    base-of-requires
-    add-near
-    sub-near
-    cast-near
-    near-requires
-    returns
-    wide-requires
-    add-last
-    add-j
-    loop-less
-    loop-again
-    returns-2)
+    Inv-loop μ-loop loop-holds sub-at-most-1024 (λ c κs. search needs) base-of-requires add-near sub-near
+    cast-near near-requires returns (λ c κs. search needs) add-last add-j loop-less loop-again returns-2)

@@ -6,24 +6,6 @@ use borrow.Author.Needs.{needs}
 use Rattle.cbf_pixels.proofs.validate.pass_plain.Statement.{statement}
 use Rattle.cbf_pixels.proofs.validate.pass_plain.Tie as tie
 
-is-far-requires : tie.Need-is-far-requires
-is-far-requires c κs = search needs
-
-sum-run-requires : tie.Need-sum-run-requires
-sum-run-requires c κs = search needs
-
-cast-total : tie.Need-cast-total
-cast-total c = search needs
-
-add-result : tie.Need-add-result
-add-result c = search needs
-
-mul-result : tie.Need-mul-result
-mul-result c = search needs
-
-sub-result : tie.Need-sub-result
-sub-result c = search needs
-
 returns : tie.Need-returns
 returns c =
     let a = c .before .before .before .before .args in
@@ -35,9 +17,6 @@ returns c =
     passed-to (a .top) (a .octets .now) (a .biased) (a .i) (a .n) (a .biased + t - 128 * a .n) (a .i + a .n)
     (omega (arith, p .5, F .0), omega (arith, p .5, F .1))
     (G .leads (a .top) (a .biased) (omega (arith, p .5, F .0)) (omega (arith, p .5, F .1))) (p .2)
-
-is-long-requires : tie.Need-is-long-requires
-is-long-requires c κs = search needs
 
 pass-near-requires : tie.Need-pass-near-requires
 pass-near-requires c κs =
@@ -52,25 +31,10 @@ returns-2 c =
     let P = c .before .pass-near .ensures (c .if3 .taken) in
     passed-to (a .top) (a .octets .now) (a .biased) (a .i) (a .n) (c .before .pass-near .result) (a .i + a .n) (P .0) (P .1) (p .2)
 
-pass-run-requires : tie.Need-pass-run-requires
-pass-run-requires c κs = search needs
-
-returns-3 : tie.Need-returns-3
-returns-3 c = search needs
-
 pub pass-plain-spec : {M : Type 1} → statement M
 pass-plain-spec =
     tie.close
     (tie.spec
-    is-far-requires
-    sum-run-requires
-    cast-total
-    add-result
-    mul-result
-    sub-result
-    returns
-    is-long-requires
-    pass-near-requires
-    returns-2
-    pass-run-requires
-    returns-3)
+    (λ c κs. search needs) (λ c κs. search needs) (λ c. search needs) (λ c. search needs) (λ c. search needs)
+    (λ c. search needs) returns (λ c κs. search needs) pass-near-requires returns-2 (λ c κs. search needs)
+    (λ c. search needs))
