@@ -141,7 +141,7 @@ pub fn base_of(biased: u64, top: u64, half: u64) -> u64
     if biased < BIASED_LEAST + half {
         return BIASED_LEAST;
     }
-    if top < biased + (half - 1) {
+    if top < biased + half {
         return top - (2 * half - 1);
     }
     biased - half
