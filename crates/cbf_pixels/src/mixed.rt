@@ -210,7 +210,8 @@ fn differences_of(octets: &[u8], i: usize, marks: &[u8; 208], added: &mut [u16; 
     differences(&low, &high, added);
 }
 
-// The biased pixel after the octets, 0 where it is not known.
+// The biased pixel after the octets, 0 where it is not known. No pixel leaves the type where the ends of that are 32,768
+// times 192 away.
 fn last_pixel(added: &mut [u16; 208], biased: u64, top: u64) -> u64
     requires { ⌜ Top top × Between top biased × (biasedLeast + 65535 ≤ top) × Addends (now added) ⌝ }
     ensures { λ r. ⌜ ((r ≡ 0 → ⊥) → Walk (now (added .entry)) biasedLeast top biased r) ⌝ }

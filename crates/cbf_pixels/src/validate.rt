@@ -188,7 +188,8 @@ pub fn is_far(biased: u64, top: u64, distance: u64) -> bool
     biased + distance <= top
 }
 
-// The same, where the run is at most 4,096 octets long.
+// The same, where the run is at most 4,096 octets long: none of its pixels leaves the type where the ends of that are 128
+// times 4,096 away.
 pub fn pass_plain(octets: &[u8], i: usize, n: usize, biased: u64, top: u64) -> u64
     requires { ⌜ Top top × Between top biased × (i + n ≤ length (now octets)) × Plain (now octets) i n × (n % 32 ≡ 0) × (n ≤ 4096) ⌝ }
     ensures { λ r. ⌜ Passed top (now (octets .entry)) biased i n r (i + n) ⌝ }

@@ -16,39 +16,6 @@ abbrev μ-loop : tie.MeasureT-loop
 loop-holds : tie.Need-loop-holds Inv-loop μ-loop
 loop-holds c = (omega arith, written-none _ _ _ (c .before .pre .3))
 
-add-k : tie.Need-add-k Inv-loop μ-loop
-add-k c = omega (arith, c .before .before .before .pre .1)
-
-shared-slice-read-add4 : tie.Need-shared-slice-read-add4 Inv-loop μ-loop
-shared-slice-read-add4 c = omega (arith, c .before .before .before .before .pre .1)
-
-sub-add4 : tie.Need-sub-add4 Inv-loop μ-loop
-sub-add4 c = omega (arith, c .before .before .before .before .pre .0)
-
-shared-slice-read-add4-2 : tie.Need-shared-slice-read-add4-2 Inv-loop μ-loop
-shared-slice-read-add4-2 c = omega (arith, c .before .before .before .before .before .pre .1)
-
-sub-add4-2 : tie.Need-sub-add4-2 Inv-loop μ-loop
-sub-add4-2 c = omega (arith, c .before .before .before .before .before .pre .0)
-
-shared-slice-read-add4-3 : tie.Need-shared-slice-read-add4-3 Inv-loop μ-loop
-shared-slice-read-add4-3 c = omega (arith, c .before .before .before .before .before .before .pre .1)
-
-sub-add4-3 : tie.Need-sub-add4-3 Inv-loop μ-loop
-sub-add4-3 c = omega (arith, c .before .before .before .before .before .before .pre .0)
-
-shared-slice-read-add4-4 : tie.Need-shared-slice-read-add4-4 Inv-loop μ-loop
-shared-slice-read-add4-4 c = omega (arith, c .before .before .before .before .before .before .before .pre .1)
-
-add-sums : tie.Need-add-sums Inv-loop μ-loop
-add-sums c = omega (arith, c .before .before .before .before .before .before .before .before .pre .2)
-
-element-write-sums : tie.Need-element-write-sums Inv-loop μ-loop
-element-write-sums c = omega (arith, c .before .before .before .before .before .before .before .before .pre .2)
-
-add-j : tie.Need-add-j Inv-loop μ-loop
-add-j c = omega (arith, c .before .before .before .before .before .before .before .before .pre .2)
-
 loop-again : tie.Need-loop-again Inv-loop μ-loop
 loop-again c =
     let p = c .before .before .before .before .before .before .before .before .pre in
@@ -62,6 +29,6 @@ pub fours-spec : {M : Type 1} → statement M
 fours-spec =
     tie.close
     (tie.spec
-    Inv-loop μ-loop loop-holds add-k shared-slice-read-add4 sub-add4 shared-slice-read-add4-2 sub-add4-2
-    shared-slice-read-add4-3 sub-add4-3 shared-slice-read-add4-4 (λ c κs. search needs) add-sums
-    element-write-sums add-j (λ c. omega arith) loop-again returns)
+    Inv-loop μ-loop loop-holds (λ c. search needs) (λ c. search needs) (λ c. search needs) (λ c. search needs)
+    (λ c. search needs) (λ c. search needs) (λ c. search needs) (λ c. search needs) (λ c κs. search needs)
+    (λ c. search needs) (λ c. search needs) (λ c. search needs) (λ c. omega arith) loop-again returns)

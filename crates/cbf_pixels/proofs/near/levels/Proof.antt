@@ -22,42 +22,6 @@ abbrev μ-loop : tie.MeasureT-loop
 loop-holds : tie.Need-loop-holds Inv-loop μ-loop
 loop-holds c = (omega arith, c .pre .1, λ os i b W L. L, λ k h. let y : ⊥ = omega arith in absurd y)
 
-add-add4 : tie.Need-add-add4 Inv-loop μ-loop
-add-add4 c = omega (arith, c .before .before .pre .0)
-
-element-copy-out-add4 : tie.Need-element-copy-out-add4 Inv-loop μ-loop
-element-copy-out-add4 c = omega (arith, c .before .before .pre .0)
-
-add-add4-2 : tie.Need-add-add4-2 Inv-loop μ-loop
-add-add4-2 c = omega (arith, c .before .before .before .pre .0)
-
-element-copy-out-add4-2 : tie.Need-element-copy-out-add4-2 Inv-loop μ-loop
-element-copy-out-add4-2 c = omega (arith, c .before .before .before .pre .0)
-
-add-add4-3 : tie.Need-add-add4-3 Inv-loop μ-loop
-add-add4-3 c = omega (arith, c .before .before .before .before .pre .0)
-
-element-copy-out-add4-3 : tie.Need-element-copy-out-add4-3 Inv-loop μ-loop
-element-copy-out-add4-3 c = omega (arith, c .before .before .before .before .pre .0)
-
-add-add4-4 : tie.Need-add-add4-4 Inv-loop μ-loop
-add-add4-4 c = omega (arith, c .before .before .before .before .before .pre .0)
-
-element-copy-out-add4-4 : tie.Need-element-copy-out-add4-4 Inv-loop μ-loop
-element-copy-out-add4-4 c = omega (arith, c .before .before .before .before .before .pre .0)
-
-element-copy-out-wrapping-add-u8 : tie.Need-element-copy-out-wrapping-add-u8 Inv-loop μ-loop
-element-copy-out-wrapping-add-u8 c = omega (arith, c .before .before .before .before .before .before .before .pre .0)
-
-add-pixels : tie.Need-add-pixels Inv-loop μ-loop
-add-pixels c = omega (arith, c .before .before .before .before .before .before .before .before .before .pre .0)
-
-element-write-pixels : tie.Need-element-write-pixels Inv-loop μ-loop
-element-write-pixels c = omega (arith, c .before .before .before .before .before .before .before .before .before .pre .0)
-
-add-j : tie.Need-add-j Inv-loop μ-loop
-add-j c = omega (arith, c .before .before .before .before .before .before .before .before .before .pre .0)
-
 loop-again : tie.Need-loop-again Inv-loop μ-loop
 loop-again c =
     let p = c .before .before .before .before .before .before .before .before .before .pre in
@@ -85,7 +49,7 @@ pub levels-spec : {M : Type 1} → statement M
 levels-spec =
     tie.close
     (tie.spec
-    Inv-loop μ-loop loop-holds add-add4 element-copy-out-add4 add-add4-2 element-copy-out-add4-2 add-add4-3
-    element-copy-out-add4-3 add-add4-4 element-copy-out-add4-4 (λ c κs. search needs)
-    element-copy-out-wrapping-add-u8 (λ c κs. search needs) add-pixels element-write-pixels add-j
+    Inv-loop μ-loop loop-holds (λ c. search needs) (λ c. search needs) (λ c. search needs) (λ c. search needs)
+    (λ c. search needs) (λ c. search needs) (λ c. search needs) (λ c. search needs) (λ c κs. search needs)
+    (λ c. search needs) (λ c κs. search needs) (λ c. search needs) (λ c. search needs) (λ c. search needs)
     (λ c. omega arith) loop-again returns)
