@@ -10,7 +10,7 @@ use lib.ListN.{length, drop, getD, set, length-append}
 use lib.Seq.{sets, sets-eq, length-sets, take-length, set-set}
 use lib.IntN.{ℤ, pos, negsuc, natAbs, _+ℤ_, _-ℤ_}
 use lib.Signed.{mag, ltZ, nonNeg}
-use mir.Syntax.{w64}
+use mir.Syntax.{w32, w64}
 use mir.Val.{toZ, ofZ, SFits, Fits}
 use mir.Facts.{toZ-pos, toZ-ofZ}
 use borrow.Author.Tests.{lt-ltb, le-ltb, ltb-true, ltb-false}
@@ -54,6 +54,9 @@ lifted-sum d size f s h =
 -- a machine's number that is not negative, as an unsigned one
 pub unsigned : (z : ℤ) (n : ℕ) → z ≡ pos n → n < 2 ^ 63 → T (nonNeg z) × Fits w64 (natAbs z)
 unsigned z n e h = subst (λ (y : ℤ). T (nonNeg y) × Fits w64 (natAbs y)) (sym e) (tt, record { fits = omega arith })
+
+pub unsigned-32 : (z : ℤ) (n : ℕ) → z ≡ pos n → n < 2 ^ 32 → T (nonNeg z) × Fits w32 (natAbs z)
+unsigned-32 z n e h = subst (λ (y : ℤ). T (nonNeg y) × Fits w32 (natAbs y)) (sym e) (tt, record { fits = h })
 
 pub fits-pos : (z : ℤ) (n : ℕ) → z ≡ pos n → n < 2 ^ 63 → SFits w64 z
 fits-pos z n e h = record { sfits = subst (λ (y : ℤ). mag y < 2 ^ 63) (sym e) h }

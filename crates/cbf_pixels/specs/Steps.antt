@@ -9,9 +9,9 @@ use mathlib.Core.Option.{Option, none, some}
 use lib.Dec.{leb, ltb}
 use lib.ListN.{length, take, drop, getD}
 use lib.Seq.{sets}
-use lib.IntN.{ℤ, pos, negsuc, subℕ, natAbs}
+use lib.IntN.{ℤ, pos, negsuc, subℕ, natAbs, _-ℤ_}
 use lib.Signed.{mag, shrZ}
-use Rattle.cbf_pixels.specs.Octets.{pick}
+use Rattle.cbf_pixels.specs.Octets.{pick, bits}
 use Rattle.cbf_pixels.specs.Pixels as P
 use Rattle.cbf_pixels.specs.Pixels.{run-out, got, readBy, widths, within, allWithin, unpackFrom, packFrom, packByteOffset, least, greatest}
 use Rattle.cbf_pixels.specs.Uncompressed.{octetsPer}
@@ -275,14 +275,35 @@ lowest false limit = pos 0
 abbrev pub EachWithin : List ℤ → ℕ → ℕ → ℤ → ℤ → Type 0
 EachWithin ps k n lo hi = (j : ℕ) → j < n → within lo hi (getD ps (k + j) (pos 0)) ≡ true
 
--- and near 0, so that differences of them fit 32 bits
-abbrev pub EachNear : List ℤ → ℕ → ℕ → Type 0
-EachNear ps k n = (j : ℕ) → j < n → mag (getD ps (k + j) (pos 0)) < 2 ^ 30
+-- by how much a range is moved up so that it starts at 0
+abbrev pub raisedBy : Bool → ℕ → ℕ
+raisedBy true limit = limit + 1
+raisedBy false limit = 0
+
+-- the n pixels from k on, raised by below modulo 2^64: each is at most all, and words are the low 32 bits of each, less 2^31
+pub record Gathered (ps : List ℤ) (k n below : ℕ) (words : List ℤ) (all : ℕ) : Type 0 where
+  pub most : (j : ℕ) → j < n → (bits 8 (getD ps (k + j) (pos 0)) + below) % 2 ^ 64 ≤ all
+  pub fits : (j : ℕ) → j < n → mag (getD ps (k + j) (pos 0)) < 2 ^ 63
+  pub word : (j : ℕ) → j < n → getD words j (pos 0) ≡ subℕ ((bits 8 (getD ps (k + j) (pos 0)) + below) % 2 ^ 64 % 2 ^ 32) 2147483648
+  pub long : length words ≡ 129
+
+-- the n differences from pixel k on are those of the words
+abbrev pub SameSteps : List ℤ → ℕ → ℕ → List ℤ → Type 0
+SameSteps ps k n words = (j : ℕ) → j < n → getD words (j + 1) (pos 0) -ℤ getD words j (pos 0) ≡ getD ps (k + j + 1) (pos 0) -ℤ getD ps (k + j) (pos 0)
+
+-- the octets of the n pixels after i
+abbrev pub stepsSize : List ℤ → ℕ → ℕ → ℕ
+stepsSize ps i n = length (packFrom (getD ps i (pos 0)) (take n (drop (i + 1) ps)))
 
 -- 0 where a width with half numbers on each side of 0 holds the difference d, and 1 where not
 unfoldable pub over : ℤ → ℕ → ℕ
 unfolding pick
 over d half = pick (ltb (natAbs d) half) 0 1
+
+-- how many of the n differences from the first pixel on take eight octets
+unfoldable pub farSteps : List ℤ → ℕ → ℕ
+farSteps ps zero = 0
+farSteps ps (suc n) = farSteps ps n + over (getD ps (n + 1) (pos 0) -ℤ getD ps n (pos 0)) 2147483648
 
 -- a pixel of some type
 abbrev pub Small : ℤ → Type 0

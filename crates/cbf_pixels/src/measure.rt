@@ -3,15 +3,15 @@ use crate::ElementType;
 use crate::range;
 use crate::window;
 ghost use mathlib.Core.Path.{_≡_};
-ghost use mathlib.Core.Bool.{true};
-ghost use Prim.Native.Nat.{ℕ, _+_, _*_, _-_, _<_, _≤_, _^_};
+ghost use mathlib.Core.Bool.{true, false};
+ghost use Prim.Native.Nat.{_+_, _*_, _-_, _<_, _≤_, _^_};
 ghost use lib.Dec.{ltb};
 ghost use lib.ListN.{length, getD};
 ghost use lib.IntN.{pos, natAbs, _-ℤ_};
-ghost use lib.Signed.{mag, leZ};
+ghost use lib.Signed.{ltZ};
 ghost use mathlib.Core.List.{[], _∷_};
-ghost use Rattle.cbf_pixels.specs.Pixels.{least, greatest, within, allWithin, packDifference, packFrom};
-ghost use Rattle.cbf_pixels.specs.Steps.{Typed, EachWithin, EachNear, over, part, sizeWithin, sizeOf};
+ghost use Rattle.cbf_pixels.specs.Pixels.{least, greatest, allWithin, packDifference};
+ghost use Rattle.cbf_pixels.specs.Steps.{Typed, EachWithin, SameSteps, stepsSize, farSteps, over, part, sizeWithin, sizeOf};
 
 fn least_of(kind: ElementType) -> i64
     ensures { λ r. ⌜ r ≡ least kind ⌝ }
@@ -114,79 +114,116 @@ fn size_of_each(pixels: &[i64], k: usize, n: usize, last: i64, lo: i64, hi: i64)
     total
 }
 
-// The difference of two pixels, in 32 bits.
-fn near_difference(z: i64, last: i64) -> i32
-    requires { ⌜ (mag z < 2 ^ 30) × (mag last < 2 ^ 30) ⌝ }
-    ensures { λ r. ⌜ r ≡ z -ℤ last ⌝ }
+// How far y is above z, or at z.
+fn above(y: i32, z: i32) -> u32
+    requires { ⌜ ltZ y z ≡ false ⌝ }
+    ensures { λ r. ⌜ r ≡ natAbs (y -ℤ z) ⌝ }
 {
-    let y = z as i32;
-    let x = last as i32;
-    y - x
+    (y as i64 - z as i64) as u32
 }
 
-// 0 where a width holds the difference d, and 1 where not.
-fn beyond(d: i32, half: u16) -> u32
-    ensures { λ r. ⌜ r ≡ over d half ⌝ }
+// How far two words are apart.
+fn apart(y: i32, z: i32) -> u32
+    ensures { λ r. ⌜ r ≡ natAbs (y -ℤ z) ⌝ }
 {
-    let side = half as i32;
-    if d <= -side {
-        return 1;
+    if y < z {
+        return above(z, y);
     }
-    if d < side { 0 } else { 1 }
+    above(y, z)
 }
 
-// The octets of the n pixels after i, without a branch for each.
-fn size_of_near(pixels: &[i64], i: usize, n: usize) -> usize
-    requires { ⌜ (i + n < length (now pixels)) × (n ≤ 128) × EachNear (now pixels) i (n + 1) ⌝ }
-    ensures { λ r. ⌜ (r ≡ length (packFrom (getD (now (pixels .entry)) i (pos 0)) (part (now (pixels .entry)) (i + 1) n))) × (r ≤ 15 * n) ⌝ }
+// 0 where a width holds the distance m, and 1 where not.
+fn beyond(m: u32, half: u32) -> u32
+    ensures { λ r. ⌜ (r ≡ over (pos m) half) × (r ≤ 1) ⌝ }
+{
+    if m < half { 0 } else { 1 }
+}
+
+// How many of the 128 words after the first are 2^31 or more from the one before.
+fn count_far(words: &[i32; 129]) -> u32
+    requires { ⌜ length (now words) ≡ 129 ⌝ }
+    ensures { λ r. ⌜ (r ≡ farSteps (now (words .entry)) 128) × (r ≤ 128) ⌝ }
+{
+    let mut four: u32 = 0;
+    let mut j: usize = 0;
+    while j < 128 {
+        let z = words[j];
+        let y = words[j + 1];
+        let m = apart(y, z);
+        four += beyond(m, 2147483648);
+        j += 1;
+    }
+    four
+}
+
+// The octets of the 128 words after the first, without a branch for each. Few parts have a difference of eight octets:
+// the bitwise or of the distances shows which.
+fn size_of_words(words: &[i32; 129]) -> usize
+    requires { ⌜ length (now words) ≡ 129 ⌝ }
+    ensures { λ r. ⌜ (r ≡ stepsSize (now (words .entry)) 0 128) × (r ≤ 15 * 128) ⌝ }
 {
     let mut one: u32 = 0;
     let mut two: u32 = 0;
+    let mut all: u32 = 0;
     let mut j: usize = 0;
-    while j < n {
-        let z = pixels[i + j];
-        let y = pixels[i + j + 1];
-        let d = near_difference(y, z);
-        one += beyond(d, 128);
-        two += beyond(d, 32768);
+    while j < 128 {
+        let z = words[j];
+        let y = words[j + 1];
+        let m = apart(y, z);
+        one += beyond(m, 128);
+        two += beyond(m, 32768);
+        all = all | m;
         j += 1;
     }
-    n + 2 * one as usize + 4 * two as usize
-}
-
-// At most hi, and below 2^30, so that differences fit 32 bits.
-fn near_limit(hi: i64) -> u64
-    requires { ⌜ leZ (pos 0) hi ≡ true ⌝ }
-    ensures { λ r. ⌜ (leZ (pos r) hi ≡ true) × (r < 2 ^ 30) ⌝ }
-{
-    if hi < 1073741823 {
-        return hi as u64;
+    let size = 128 + 2 * one as usize + 4 * two as usize;
+    if all < 2147483648 {
+        return size;
     }
-    1073741823
+    size + 8 * count_far(words) as usize
 }
 
-// Whether the n pixels from i on are in their type and near 0: true only where they are.
-fn all_near(pixels: &[i64], i: usize, n: usize, last: i64, lo: i64, hi: i64) -> bool
-    requires { ⌜ Typed lo hi last × (i + n ≤ length (now pixels)) ⌝ }
-    ensures { λ r. ⌜ (r ≡ true → EachWithin (now (pixels .entry)) i n lo hi × EachNear (now (pixels .entry)) i n) ⌝ }
+// The 129 pixels from i on as words that stand as far apart, where the pixels are in their type: true only then.
+fn typed_words(
+    pixels: &[i64],
+    i: usize,
+    last: i64,
+    lo: i64,
+    hi: i64,
+    words: &mut [i32; 129],
+) -> bool
+    requires { ⌜ Typed lo hi last × (i + 129 ≤ length (now pixels)) × (length (now words) ≡ 129) ⌝ }
+    ensures { λ r. ⌜ (r ≡ true → EachWithin (now (pixels .entry)) i 129 lo hi × SameSteps (now (pixels .entry)) i 128 (now (words .exit))) ⌝ }
+    ensures { λ _. ⌜ length (now (words .exit)) ≡ 129 ⌝ }
 {
     let signed = lo < 0;
-    let limit = near_limit(hi);
-    range::each_within(pixels, i, n, signed, limit)
+    let limit = hi as u64;
+    range::words_within(pixels, i, signed, limit, words)
 }
 
 // The octets of the n pixels from k on, or 0 where one is outside. last is the pixel before them.
-fn size_of_part(pixels: &[i64], k: usize, n: usize, last: i64, lo: i64, hi: i64) -> usize
-    requires { ⌜ Typed lo hi last × (k + n ≤ length (now pixels)) × (n ≤ 128) × (0 < k → last ≡ getD (now pixels) (k - 1) (pos 0)) ⌝ }
+fn size_of_part(
+    pixels: &[i64],
+    k: usize,
+    n: usize,
+    last: i64,
+    lo: i64,
+    hi: i64,
+    words: &mut [i32; 129],
+) -> usize
+    requires { ⌜ Typed lo hi last × (k + n ≤ length (now pixels)) × (n ≤ 128) × (0 < k → last ≡ getD (now pixels) (k - 1) (pos 0)) × (length (now words) ≡ 129) ⌝ }
     ensures { λ r. ⌜ (r ≡ sizeWithin lo hi last (part (now (pixels .entry)) k n)) × (r ≤ 15 * n) ⌝ }
+    ensures { λ _. ⌜ length (now (words .exit)) ≡ 129 ⌝ }
 {
     if k < 1 {
         return size_of_each(pixels, k, n, last, lo, hi);
     }
-    if !all_near(pixels, k - 1, n + 1, last, lo, hi) {
+    if n < 128 {
         return size_of_each(pixels, k, n, last, lo, hi);
     }
-    size_of_near(pixels, k - 1, n)
+    if !typed_words(pixels, k - 1, last, lo, hi, words) {
+        return size_of_each(pixels, k, n, last, lo, hi);
+    }
+    size_of_words(words)
 }
 
 pub enum Size {
@@ -201,6 +238,7 @@ pub fn octet_count(kind: ElementType, pixels: &[i64]) -> Size
 {
     let lo = least_of(kind);
     let hi = greatest_of(kind);
+    let mut words = [0i32; 129];
     let mut last: i64 = 0;
     let mut total: usize = 0;
     let mut k: usize = 0;
@@ -208,7 +246,7 @@ pub fn octet_count(kind: ElementType, pixels: &[i64]) -> Size
         let mut n = window::window_run(pixels, k, last);
         if n == 0 {
             n = window::part(pixels.len() - k);
-            let m = size_of_part(pixels, k, n, last, lo, hi);
+            let m = size_of_part(pixels, k, n, last, lo, hi, &mut words);
             if m == 0 {
                 return Size::Outside;
             }

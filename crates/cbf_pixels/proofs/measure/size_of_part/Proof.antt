@@ -1,12 +1,11 @@
-use Prim.Native.Nat.{_+_, _-_}
 use native.Mathlib.Omega.{arith}
-use mathlib.Core.Path.{_∙_}
+use mathlib.Core.Path.{_≡_, _∙_}
 use borrow.Author.Tests.{not-false}
-use borrow.Author.Needs.{needs}
 use mir.Facts.{toZ-ofZ}
-use Rattle.cbf_pixels.specs.Steps.{part, EachWithin, EachNear}
+use borrow.Author.Needs.{needs}
+use Rattle.cbf_pixels.specs.Steps.{part}
 use Rattle.cbf_pixels.proofs.Sizes.{held, held-is}
-use Rattle.cbf_pixels.proofs.Ranges.{part-near}
+use Rattle.cbf_pixels.proofs.Ranges.{part-words}
 use Rattle.cbf_pixels.proofs.measure.size_of_part.Statement.{statement}
 use Rattle.cbf_pixels.proofs.measure.size_of_part.Tie as tie
 
@@ -17,37 +16,47 @@ returns : tie.Need-returns
 returns c =
     let s = c .before .before in
     let a = s .args in
-    (held-is (s .fits .lo) (s .fits .hi) (s .fits .last) (part (a .pixels .now) (a .k) (a .n)) (c .size-of-each .ensures .0), c .size-of-each .ensures .1)
-
-add-all-near : tie.Need-add-all-near
-add-all-near c = search needs
-
-all-near-requires : tie.Need-all-near-requires
-all-near-requires c κs = search needs
+    let r = c .size-of-each .ensures in
+    ((held-is (s .fits .lo) (s .fits .hi) (s .fits .last) (part (a .pixels .now) (a .k) (a .n)) (r .0), r .1), s .pre .4)
 
 size-of-each-requires-2 : tie.Need-size-of-each-requires-2
 size-of-each-requires-2 c κs = search needs
 
 returns-2 : tie.Need-returns-2
 returns-2 c =
-    let s = c .before .before .before .before in
+    let s = c .before .before .before in
     let a = s .args in
-    (held-is (s .fits .lo) (s .fits .hi) (s .fits .last) (part (a .pixels .now) (a .k) (a .n)) (c .size-of-each2 .ensures .0), c .size-of-each2 .ensures .1)
+    let r = c .size-of-each2 .ensures in
+    ((held-is (s .fits .lo) (s .fits .hi) (s .fits .last) (part (a .pixels .now) (a .k) (a .n)) (r .0), r .1), s .pre .4)
 
-near : (c : tie.Else2) → EachWithin (c .before .before .before .args .pixels .now) (c .before .before .before .args .k - 1) (c .before .before .before .args .n + 1) (held (c .before .before .before .args .lo)) (held (c .before .before .before .args .hi)) × EachNear (c .before .before .before .args .pixels .now) (c .before .before .before .args .k - 1) (c .before .before .before .args .n + 1)
-near c = c .before .all-near .ensures (not-false (c .before .all-near .result) (c .if2 .left))
+typed-words-requires : tie.Need-typed-words-requires
+typed-words-requires c κs = search needs
 
-size-of-near-requires : tie.Need-size-of-near-requires
-size-of-near-requires c κs = (omega arith, omega arith, near c .1)
+size-of-each-requires-3 : tie.Need-size-of-each-requires-3
+size-of-each-requires-3 c κs = search needs
 
 returns-3 : tie.Need-returns-3
 returns-3 c =
-    let s = c .before .before .before .before in
+    let s = c .before .before .before .before .before .before in
     let a = s .args in (
-      held-is (s .fits .lo) (s .fits .hi) (s .fits .last) (part (a .pixels .now) (a .k) (a .n))
-          (part-near (held (a .lo)) (held (a .hi)) (a .pixels .now) (a .k) (a .n) (held (a .last)) (c .size-of-near .result) (omega arith) (s .pre .1) (toZ-ofZ (s .fits .last) ∙ s .pre .3 (omega arith)) (near (c .before) .0) (c .size-of-near .ensures .0)),
-      c .size-of-near .ensures .1,
+      (held-is (s .fits .lo) (s .fits .hi) (s .fits .last) (part (a .pixels .now) (a .k) (a .n)) (c .size-of-each3 .ensures .0), c .size-of-each3 .ensures .1),
+      c .before .before .typed-words .ensures .1,
     )
+
+size-of-words-requires : tie.Need-size-of-words-requires
+size-of-words-requires c κs = search needs
+
+returns-4 : tie.Need-returns-4
+returns-4 c =
+    let s = c .before .before .before .before .before .before .before in
+    let a = s .args in
+    let t = c .before .before .before .typed-words in
+    let r = c .size-of-words in
+    let e : a .n ≡ 128 = omega arith in
+    let both = t .ensures .0 (not-false (t .result) (c .before .before .if3 .left)) in
+    let m = part-words (held (a .lo)) (held (a .hi)) (a .pixels .now) (a .k) (a .n) (held (a .last)) (r .result) (t .last .1 .1 .1 .1 .1 .0) (omega arith) e (s .pre .1)
+    (toZ-ofZ (s .fits .last) ∙ s .pre .3 (omega arith)) (t .ensures .1) both (r .ensures .0) in
+    ((held-is (s .fits .lo) (s .fits .hi) (s .fits .last) (part (a .pixels .now) (a .k) (a .n)) m, omega (arith, r .ensures .1)), t .ensures .1)
 
 pub size-of-part-spec : {M : Type 1} → statement M
 size-of-part-spec =
@@ -55,9 +64,10 @@ size-of-part-spec =
     (tie.spec
     size-of-each-requires
     returns
-    add-all-near
-    all-near-requires
     size-of-each-requires-2
     returns-2
-    size-of-near-requires
-    returns-3)
+    typed-words-requires
+    size-of-each-requires-3
+    returns-3
+    size-of-words-requires
+    returns-4)
