@@ -30,7 +30,8 @@ pub stored-is : (t : List ℕ) (n c : ℕ) → t ≡ forms → c ≤ 2 → n < 2
 unfolding storedAs
 stored-is t n c e h l = rw e (go c h)
   where
-    go : (c : ℕ) → c ≤ 2 → (getD forms c 0 < 64) × (n * 2 ^ getD forms c 0 % 18446744073709551616 + getD forms (c + 3) 0 ≡ storedAs c n) × (storedAs c n < 2 ^ 63)
+    go : (c : ℕ) → c ≤ 2 → (getD forms c 0 < 64) × (n * 2 ^ getD forms c 0 % 18446744073709551616 + getD forms (c + 3) 0 ≡ storedAs c n)
+        × (storedAs c n < 2 ^ 63)
     go zero h = (omega arith, omega arith, omega arith)
     go (suc zero) h = (omega arith, omega arith, omega arith)
     go (suc (suc zero)) h = (omega arith, omega arith, omega arith)
@@ -106,7 +107,8 @@ stored-3 d g h =
     let v : octets 7 n ≡ octets 2 (bits 2 d) ++ r = octets-add 2 5 n ∙ ap (λ (l : List ℕ). l ++ r) (octets-mod 2 n ∙ ap (octets 2) (low-2 d h)) in
     record {
       behind = r;
-      is = octets-add 1 7 m ∙ ap₂ (λ (x y : List ℕ). x ++ y) u (ap (octets 7) q ∙ v) ∙ sym (append-assoc (octets 1 128) (octets 2 (bits 2 d)) r) ∙ ap (λ (l : List ℕ). l ++ r) (sym (f .is));
+      is = octets-add 1 7 m ∙ ap₂ (λ (x y : List ℕ). x ++ y) u (ap (octets 7) q ∙ v) ∙ sym (append-assoc (octets 1 128) (octets 2 (bits 2 d)) r)
+          ∙ ap (λ (l : List ℕ). l ++ r) (sym (f .is));
       long = form-size f;
       some = omega arith;
     }
@@ -122,7 +124,8 @@ stored-7 d g h =
     let f = form4 d g h in
     let q : m / 256 ^ 3 ≡ n = omega arith in
     let r = octets 1 (n / 256 ^ 4) in
-    let v : octets 5 n ≡ octets 4 (bits 4 d) ++ r = octets-add 4 1 n ∙ ap (λ (l : List ℕ). l ++ r) (octets-mod 4 n ∙ ap (octets 4) (lifted-bits d 4294967296 4 (omega arith) refl)) in
+    let v : octets 5 n ≡ octets 4 (bits 4 d) ++ r = octets-add 4 1 n ∙ ap (λ (l : List ℕ). l ++ r)
+    (octets-mod 4 n ∙ ap (octets 4) (lifted-bits d 4294967296 4 (omega arith) refl)) in
     record {
       behind = r;
       is =
@@ -138,7 +141,9 @@ unfolding storedAs formLength
 stored d n c h e f = go (ltb (natAbs d) 128) refl (ltb (natAbs d) 32768) refl
   where
     with-form : (k : ℕ) → over d 128 + over d 32768 ≡ k → Stored d (storedAs k (lifted d 4294967296)) (formLength k) → Stored d (storedAs c n) (formLength c)
-    with-form k q = subst (λ (x : ℕ). Stored d (storedAs k (lifted d 4294967296)) (formLength k) → Stored d (storedAs x n) (formLength x)) (sym (f ∙ q)) (subst (λ (y : ℕ). Stored d (storedAs k (lifted d 4294967296)) (formLength k) → Stored d (storedAs k y) (formLength k)) (sym e) (λ s. s))
+    with-form k q = subst (λ (x : ℕ). Stored d (storedAs k (lifted d 4294967296)) (formLength k) → Stored d (storedAs x n) (formLength x))
+        (sym (f ∙ q)) (subst (λ (y : ℕ). Stored d (storedAs k (lifted d 4294967296)) (formLength k) → Stored d (storedAs k y) (formLength k)) (sym e)
+        (λ s. s))
 
     go : (s : Bool) → ltb (natAbs d) 128 ≡ s → (t : Bool) → ltb (natAbs d) 32768 ≡ t → Stored d (storedAs c n) (formLength c)
     go true p true q = with-form 0 (omega (arith, over-no d 128 p, over-no d 32768 q)) (stored-1 d (ltb-true (natAbs d) 128 p))
@@ -146,7 +151,8 @@ stored d n c h e f = go (ltb (natAbs d) 128) refl (ltb (natAbs d) 32768) refl
     go false p true q = with-form 1 (omega (arith, over-yes d 128 p, over-no d 32768 q)) (stored-3 d (ltb-false (natAbs d) 128 p) (ltb-true (natAbs d) 32768 q))
     go false p false q = with-form 2 (omega (arith, over-yes d 128 p, over-yes d 32768 q)) (stored-7 d (ltb-false (natAbs d) 32768 q) h)
 
-pub put-stored : {d : ℤ} {m size : ℕ} (out : List ℕ) (at : ℕ) (out′ : List ℕ) (next : ℕ) → Stored d m size → out′ ≡ sets out at (octets 8 m) → next ≡ at + size → PutOver d out at out′ next
+pub put-stored : {d : ℤ} {m size : ℕ} (out : List ℕ) (at : ℕ) (out′ : List ℕ) (next : ℕ) → Stored d m size → out′ ≡ sets out at (octets 8 m)
+    → next ≡ at + size → PutOver d out at out′ next
 put-stored {d} {m} {size} out at out′ next s e a =
     let l = length-append (packDifference d) (s .behind) in
     let k : length (packDifference d ++ s .behind) ≡ 8 = ap length (sym (s .is)) ∙ length-octets 8 m in
@@ -159,7 +165,8 @@ put-stored {d} {m} {size} out at out′ next s e a =
     }
 
 -- a difference of fifteen octets is all that is written
-pub put-far : (d : ℤ) (out : List ℕ) (at : ℕ) (out′ : List ℕ) (next : ℕ) → 7 ≤ length (packDifference d) → (next ≡ at + length (packDifference d)) × (out′ ≡ sets out at (packDifference d)) → PutOver d out at out′ next
+pub put-far : (d : ℤ) (out : List ℕ) (at : ℕ) (out′ : List ℕ) (next : ℕ) → 7 ≤ length (packDifference d) → (next ≡ at + length (packDifference d))
+    × (out′ ≡ sets out at (packDifference d)) → PutOver d out at out′ next
 put-far d out at out′ next h e =
     record {
       behind = [];
@@ -193,16 +200,20 @@ pub record Along (ps : List ℤ) (k n : ℕ) (last : ℤ) (out : List ℕ) (at j
   pub seven : length behind ≤ 7
   pub is : out′ ≡ sets clean next behind
 
-pub along-none : {ps : List ℤ} {k n : ℕ} {last : ℤ} {out : List ℕ} {at word next limit : ℕ} → toZ w64 word ≡ last → next ≡ at → Along ps k n last out at 0 out word next limit
+pub along-none : {ps : List ℤ} {k n : ℕ} {last : ℤ} {out : List ℕ} {at word next limit : ℕ} → toZ w64 word ≡ last → next ≡ at
+    → Along ps k n last out at 0 out word next limit
 along-none {out = out} e q = record { clean = out; upto = upto-none e q; behind = []; few = omega arith; seven = omega arith; is = refl }
 
-along-length : {ps : List ℤ} {k n : ℕ} {last : ℤ} {out : List ℕ} {at j : ℕ} {out′ : List ℕ} {word next limit : ℕ} (a : Along ps k n last out at j out′ word next limit) → length out′ ≡ length (a .clean)
+along-length : {ps : List ℤ} {k n : ℕ} {last : ℤ} {out : List ℕ} {at j : ℕ} {out′ : List ℕ} {word next limit : ℕ}
+    (a : Along ps k n last out at j out′ word next limit) → length out′ ≡ length (a .clean)
 along-length {next = next} a = ap length (a .is) ∙ length-sets (a .clean) next (a .behind)
 
-pub along-same : {ps : List ℤ} {k n : ℕ} {last : ℤ} {out : List ℕ} {at j : ℕ} {out′ : List ℕ} {word next limit : ℕ} → Along ps k n last out at j out′ word next limit → length out′ ≡ length out
+pub along-same : {ps : List ℤ} {k n : ℕ} {last : ℤ} {out : List ℕ} {at j : ℕ} {out′ : List ℕ} {word next limit : ℕ}
+    → Along ps k n last out at j out′ word next limit → length out′ ≡ length out
 along-same a = along-length a ∙ wrote-length (a .upto .wrote)
 
-module _ {ps : List ℤ} {k n : ℕ} {last : ℤ} {out : List ℕ} {at : ℕ} (w : Writable ps k n last out at) {j : ℕ} {out′ : List ℕ} {word next limit : ℕ} (a : Along ps k n last out at j out′ word next limit) (m i : ℕ) (e : i ≡ k + j) (l : j + m ≤ n) where
+module _ {ps : List ℤ} {k n : ℕ} {last : ℤ} {out : List ℕ} {at : ℕ} (w : Writable ps k n last out at) {j : ℕ} {out′ : List ℕ} {word next limit : ℕ}
+    (a : Along ps k n last out at j out′ word next limit) (m i : ℕ) (e : i ≡ k + j) (l : j + m ≤ n) where
   -- the next m have room
   pub along-writable : Writable ps i m (toZ w64 word) out′ next
   along-writable =
@@ -216,7 +227,8 @@ module _ {ps : List ℤ} {k n : ℕ} {last : ℤ} {out : List ℕ} {at : ℕ} (w
       let s = from-bounds (toZ w64 word) (part ps i m) .0 in
       omega (arith, v .room, v .pixels, length-take-le m (drop i ps) (omega (arith, v .pixels, length-drop i ps)))
 
-pub along-one : {ps : List ℤ} {k n : ℕ} {last : ℤ} {out : List ℕ} {at j : ℕ} {out′ : List ℕ} {word next : ℕ} → Writable ps k n last out at → Along ps k n last out at j out′ word next 7
+pub along-one : {ps : List ℤ} {k n : ℕ} {last : ℤ} {out : List ℕ} {at j : ℕ} {out′ : List ℕ} {word next : ℕ} → Writable ps k n last out at
+    → Along ps k n last out at j out′ word next 7
     → (i : ℕ) → i ≡ k + j → j + 1 ≤ n → {out″ : List ℕ} {next′ : ℕ} → PutOver (toZ w64 (ofZ w64 (gap ps i word))) out′ next out″ next′
     → Along ps k n last out at (j + 1) out″ (ofZ w64 (getD ps i (pos 0))) next′ 7
 along-one {ps} {k} {n} {last} {out} {at} {j} {out′} {word} {next} w a i e l {out″} {next′} p =
@@ -236,7 +248,8 @@ along-one {ps} {k} {n} {last} {out} {at} {j} {out′} {word} {next} w a i e l {o
     }
 
 -- n of them
-pub along-all : {ps : List ℤ} {k n N : ℕ} {last : ℤ} {out : List ℕ} {at j : ℕ} {out′ : List ℕ} {word next limit : ℕ} → Along ps k N (toZ w64 (ofZ w64 last)) out at j out′ word next limit → Small last → n ≡ j
+pub along-all : {ps : List ℤ} {k n N : ℕ} {last : ℤ} {out : List ℕ} {at j : ℕ} {out′ : List ℕ} {word next limit : ℕ}
+    → Along ps k N (toZ w64 (ofZ w64 last)) out at j out′ word next limit → Small last → n ≡ j
     → WroteOver ps k n last out at out′ next limit
 along-all a h e =
     record { clean = a .clean; wrote = wrote-word h (wrote-as (a .upto .wrote) e refl refl); behind = a .behind; few = a .few; seven = a .seven; is = a .is }
@@ -251,17 +264,21 @@ writable-few {ps} {k} {n} {last} {out} {at} w m l =
     subst (λ (r : ℕ). Writable ps r m last out at) q (writable-then ps k last out at n 0 m out at w (omega arith) (wrote-none ps k last out at at refl))
 
 -- nothing more was written
-pub over-none : {ps : List ℤ} {k n : ℕ} {last : ℤ} {out : List ℕ} {at : ℕ} {out′ : List ℕ} {next : ℕ} → Wrote ps k n last out at out′ next → (limit : ℕ) → WroteOver ps k n last out at out′ next limit
+pub over-none : {ps : List ℤ} {k n : ℕ} {last : ℤ} {out : List ℕ} {at : ℕ} {out′ : List ℕ} {next : ℕ} → Wrote ps k n last out at out′ next
+    → (limit : ℕ) → WroteOver ps k n last out at out′ next limit
 over-none {out′ = out′} w limit = record { clean = out′; wrote = w; behind = []; few = omega arith; seven = omega arith; is = refl }
 
-pub over-limit : {ps : List ℤ} {k n : ℕ} {last : ℤ} {out : List ℕ} {at : ℕ} {out′ : List ℕ} {next limit : ℕ} → WroteOver ps k n last out at out′ next limit → (limit′ : ℕ) → limit ≤ limit′ → WroteOver ps k n last out at out′ next limit′
+pub over-limit : {ps : List ℤ} {k n : ℕ} {last : ℤ} {out : List ℕ} {at : ℕ} {out′ : List ℕ} {next limit : ℕ}
+    → WroteOver ps k n last out at out′ next limit → (limit′ : ℕ) → limit ≤ limit′ → WroteOver ps k n last out at out′ next limit′
 over-limit w limit′ l = record { clean = w .clean; wrote = w .wrote; behind = w .behind; few = omega (arith, w .few); seven = w .seven; is = w .is }
 
-pub over-word : {ps : List ℤ} {k n : ℕ} {last : ℤ} {out : List ℕ} {at : ℕ} {out′ : List ℕ} {next limit : ℕ} → Small last → WroteOver ps k n (toZ w64 (ofZ w64 last)) out at out′ next limit → WroteOver ps k n last out at out′ next limit
+pub over-word : {ps : List ℤ} {k n : ℕ} {last : ℤ} {out : List ℕ} {at : ℕ} {out′ : List ℕ} {next limit : ℕ} → Small last
+    → WroteOver ps k n (toZ w64 (ofZ w64 last)) out at out′ next limit → WroteOver ps k n last out at out′ next limit
 over-word h w = record { clean = w .clean; wrote = wrote-word h (w .wrote); behind = w .behind; few = w .few; seven = w .seven; is = w .is }
 
 -- a part that is written over what was behind
-wrote-cover : {ps : List ℤ} {k n : ℕ} {last : ℤ} {at : ℕ} {out out′ : List ℕ} {next : ℕ} (clean behind : List ℕ) → Wrote ps k n last out at out′ next → out ≡ sets clean at behind → length behind ≤ n → k + n ≤ length ps
+wrote-cover : {ps : List ℤ} {k n : ℕ} {last : ℤ} {at : ℕ} {out out′ : List ℕ} {next : ℕ} (clean behind : List ℕ) → Wrote ps k n last out at out′ next
+    → out ≡ sets clean at behind → length behind ≤ n → k + n ≤ length ps
     → Wrote ps k n last clean at out′ next
 wrote-cover {ps} {k} {n} {last} {at} clean behind w e l h =
     let xs = packFrom last (part ps k n) in
@@ -273,8 +290,10 @@ wrote-cover {ps} {k} {n} {last} {at} clean behind w e l h =
       after = w .after;
     }
 
-pub along-more : {ps : List ℤ} {k n : ℕ} {last : ℤ} {out : List ℕ} {at : ℕ} → Writable ps k n last out at → {j : ℕ} {out′ : List ℕ} {word next limit : ℕ} (a : Along ps k n last out at j out′ word next limit) (m i : ℕ)
-    → i ≡ k + j → j + m ≤ n → length (a .behind) ≤ m → (i′ : ℕ) {out″ : List ℕ} {next′ limit′ : ℕ} → i′ + 1 ≡ k + (j + m) → 0 < m → WroteOver ps i m (toZ w64 word) out′ next out″ next′ limit′
+pub along-more : {ps : List ℤ} {k n : ℕ} {last : ℤ} {out : List ℕ} {at : ℕ} → Writable ps k n last out at
+    → {j : ℕ} {out′ : List ℕ} {word next limit : ℕ} (a : Along ps k n last out at j out′ word next limit) (m i : ℕ)
+    → i ≡ k + j → j + m ≤ n → length (a .behind) ≤ m → (i′ : ℕ) {out″ : List ℕ} {next′ limit′ : ℕ} → i′ + 1 ≡ k + (j + m) → 0 < m
+    → WroteOver ps i m (toZ w64 word) out′ next out″ next′ limit′
     → Along ps k n last out at (j + m) out″ (ofZ w64 (getD ps i′ (pos 0))) next′ limit′
 along-more {ps} {k} {n} w a m i e l b i′ q p o =
     record {
@@ -287,14 +306,17 @@ along-more {ps} {k} {n} w a m i e l b i′ q p o =
     }
 
 -- all of them: nothing is left behind
-pub along-end : {ps : List ℤ} {last : ℤ} {out : List ℕ} {at j : ℕ} {out′ : List ℕ} {word next : ℕ} → Along ps 0 (length ps) last out at j out′ word next (length ps - j) → length ps ≤ j → Wrote ps 0 (length ps) last out at out′ next
-along-end {ps} {next = next} a h = wrote-as (a .upto .wrote) (omega (arith, a .upto .few)) (a .is ∙ ap (sets (a .clean) next) (none (a .behind) (omega (arith, a .few)))) refl
+pub along-end : {ps : List ℤ} {last : ℤ} {out : List ℕ} {at j : ℕ} {out′ : List ℕ} {word next : ℕ}
+    → Along ps 0 (length ps) last out at j out′ word next (length ps - j) → length ps ≤ j → Wrote ps 0 (length ps) last out at out′ next
+along-end {ps} {next = next} a h = wrote-as (a .upto .wrote) (omega (arith, a .upto .few))
+    (a .is ∙ ap (sets (a .clean) next) (none (a .behind) (omega (arith, a .few)))) refl
   where
     none : (l : List ℕ) → length l ≡ 0 → l ≡ []
     none [] e = refl
     none (x ∷ l) e = let y : ⊥ = omega arith in absurd y
 
-pub over-as : {ps : List ℤ} {k n : ℕ} {last : ℤ} {out : List ℕ} {at : ℕ} {out′ : List ℕ} {next limit n′ : ℕ} {out″ : List ℕ} {next′ limit′ : ℕ} → WroteOver ps k n last out at out′ next limit → n′ ≡ n → out″ ≡ out′ → next′ ≡ next → limit ≤ limit′
+pub over-as : {ps : List ℤ} {k n : ℕ} {last : ℤ} {out : List ℕ} {at : ℕ} {out′ : List ℕ} {next limit n′ : ℕ} {out″ : List ℕ} {next′ limit′ : ℕ}
+    → WroteOver ps k n last out at out′ next limit → n′ ≡ n → out″ ≡ out′ → next′ ≡ next → limit ≤ limit′
     → WroteOver ps k n′ last out at out″ next′ limit′
 over-as w e f g l =
     record {

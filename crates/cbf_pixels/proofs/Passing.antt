@@ -455,24 +455,29 @@ glides-none os i =
       leads = λ top biased l h.
           let b : biased ≡ biased + 0 - 128 * 0 = omega arith in
           let e : i ≡ i + 0 = omega arith in
-          subst (λ (k : ℕ). Passes top os biased i 0 (biased + 0 - 128 * 0) k) e (subst (λ (k : ℕ). Passes top os biased i 0 k i) b (passes-none top os biased i));
+          subst (λ (k : ℕ). Passes top os biased i 0 (biased + 0 - 128 * 0) k) e
+          (subst (λ (k : ℕ). Passes top os biased i 0 k i) b (passes-none top os biased i));
     }
 
-pub glides-more : (os : List ℕ) (i n total r : ℕ) → Glides os i n total → i + n < length os → (getD os (i + n) 0 ≡ 128 → ⊥) → r < 256 → signed 1 (getD os (i + n) 0) ≡ subℕ r 128
+pub glides-more : (os : List ℕ) (i n total r : ℕ) → Glides os i n total → i + n < length os → (getD os (i + n) 0 ≡ 128 → ⊥) → r < 256
+    → signed 1 (getD os (i + n) 0) ≡ subℕ r 128
     → Glides os i (n + 1) (total + r)
 glides-more os i n total r G h p small v = record { most = let m = G .most in omega arith; leads = leads }
   where
-    leads : (top biased : ℕ) → biasedLeast + 128 * (n + 1) ≤ biased → biased + 128 * (n + 1) ≤ top → Passes top os biased i (n + 1) (biased + (total + r) - 128 * (n + 1)) (i + (n + 1))
+    leads : (top biased : ℕ) → biasedLeast + 128 * (n + 1) ≤ biased → biased + 128 * (n + 1) ≤ top
+        → Passes top os biased i (n + 1) (biased + (total + r) - 128 * (n + 1)) (i + (n + 1))
     leads top biased l u =
         let m = G .most in
         let b = biased + total - 128 * n in
         let b′ = biased + (total + r) - 128 * (n + 1) in
         let q : r + b - 128 ≡ b′ = omega arith in
         let e : pos b′ ≡ pos b +ℤ signed 1 (getD os (i + n) 0)
-        = sym (ap (λ (z : ℤ). pos b +ℤ z) v ∙ +ℤ-comm (pos b) (subℕ r 128) ∙ sub-sum r 128 (r + b) (pos b) refl ∙ subℕ-pos (r + b) 128 (omega arith) ∙ ap pos q) in
+        = sym (ap (λ (z : ℤ). pos b +ℤ z) v ∙ +ℤ-comm (pos b) (subℕ r 128) ∙ sub-sum r 128 (r + b) (pos b) refl ∙ subℕ-pos (r + b) 128 (omega arith)
+        ∙ ap pos q) in
         let x : i + n + 1 ≡ i + (n + 1) = omega arith in
         subst (λ (k : ℕ). Passes top os biased i (n + 1) b′ k) x
-        (passes-passes top os biased i n 1 b (i + n) b′ (i + n + 1) (G .leads top biased (omega arith) (omega arith)) (step-in (plain-took os (i + n) h p) (omega arith, omega arith) e (omega arith, omega arith)))
+        (passes-passes top os biased i n 1 b (i + n) b′ (i + n + 1) (G .leads top biased (omega arith) (omega arith))
+        (step-in (plain-took os (i + n) h p) (omega arith, omega arith) e (omega arith, omega arith)))
 
 -- ---- parts
 

@@ -52,7 +52,8 @@ pub run-none : (os : List ℕ) (i limit : ℕ) → i ≤ length os → PlainRun 
 run-none os i limit h =
     record { plain = λ j l. let y : ⊥ = omega arith in absurd y; few = omega arith; short = omega arith; inside = omega arith; blocks = refl }
 
-pub run-more : (os : List ℕ) (i limit n : ℕ) → limit ≤ 4096 → PlainRun os i limit n → 32 ≤ limit - n → i + n + 32 ≤ length os → Plain os (i + n) 32 → PlainRun os i limit (n + 32)
+pub run-more : (os : List ℕ) (i limit n : ℕ) → limit ≤ 4096 → PlainRun os i limit n → 32 ≤ limit - n → i + n + 32 ≤ length os → Plain os (i + n) 32
+    → PlainRun os i limit (n + 32)
 run-more os i limit n s R f h q =
     let b = R .blocks in
     let l = R .few in

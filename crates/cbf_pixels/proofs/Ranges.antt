@@ -30,7 +30,8 @@ use Rattle.cbf_pixels.proofs.Parts.{last-at, pack-add, pack-one}
 use Rattle.cbf_pixels.proofs.Forms.{form1, form2, form4, form8, form-size}
 use Rattle.cbf_pixels.proofs.Sizes.{size-is}
 
-pub within-signed : (z : ℤ) (limit : ℕ) → limit < 2 ^ 62 → ((bits 8 z + (limit + 1)) % 2 ^ 64 ≤ limit + (limit + 1)) × (mag z < 2 ^ 63) → within (negsuc limit) (pos limit) z ≡ true
+pub within-signed : (z : ℤ) (limit : ℕ) → limit < 2 ^ 62 → ((bits 8 z + (limit + 1)) % 2 ^ 64 ≤ limit + (limit + 1)) × (mag z < 2 ^ 63)
+    → within (negsuc limit) (pos limit) z ≡ true
 unfolding within pick bits
 within-signed (pos n) limit l h = let g : n ≤ limit = omega arith in le-leb n limit g
 within-signed (negsuc n) limit l h = let g : n ≤ limit = omega arith in rw (le-leb n limit g)
@@ -240,7 +241,8 @@ abbrev placeOf : List ℤ → ℕ → ℕ → ℕ
 placeOf ps below i = (bits 8 (getD ps i (pos 0)) + below) % 2 ^ 64
 
 pub gathered-more : {ps : List ℤ} {k j below : ℕ} {words : List ℤ} {all : ℕ} → Gathered ps k j below words all → j < 129
-    → mag (getD ps (k + j) (pos 0)) < 2 ^ 63 → (p : ℕ) → p ≡ placeOf ps below (k + j) → (w : ℤ) → w ≡ subℕ (p % 2 ^ 32) 2147483648 → Gathered ps k (j + 1) below (set words j w) (bitOr all p)
+    → mag (getD ps (k + j) (pos 0)) < 2 ^ 63 → (p : ℕ) → p ≡ placeOf ps below (k + j) → (w : ℤ) → w ≡ subℕ (p % 2 ^ 32) 2147483648
+    → Gathered ps k (j + 1) below (set words j w) (bitOr all p)
 gathered-more {ps} {k} {j} {below} {words} {all} G l f p e w v =
     record {
       most = subst (λ (x : ℕ). (i : ℕ) → i < j + 1 → placeOf ps below (k + i) ≤ bitOr all x) (sym e)
@@ -358,7 +360,8 @@ pub each-all : (lo hi : ℤ) (ps : List ℤ) (k n : ℕ) → k + n ≤ length ps
 unfolding allWithin pick
 each-all lo hi ps k zero h each = refl
 each-all lo hi ps k (suc n) h each =
-    let at : (i j : ℕ) → i ≡ j → within lo hi (getD ps i (pos 0)) ≡ true → within lo hi (getD ps j (pos 0)) ≡ true = λ i j q. subst (λ (i : ℕ). within lo hi (getD ps i (pos 0)) ≡ true) q in
+    let at : (i j : ℕ) → i ≡ j → within lo hi (getD ps i (pos 0)) ≡ true
+    → within lo hi (getD ps j (pos 0)) ≡ true = λ i j q. subst (λ (i : ℕ). within lo hi (getD ps i (pos 0)) ≡ true) q in
     let p : part ps k (suc n) ≡ getD ps k (pos 0) ∷ part ps (suc k) n = ap (take (suc n)) (drop-cons ps k (pos 0) (omega arith)) in
     ap (allWithin lo hi) p
     ∙ ap (λ (t : Bool). pick t (allWithin lo hi (part ps (suc k) n)) false) (at (k + 0) k (omega arith) (each 0 (omega arith)))
@@ -382,10 +385,12 @@ part-words lo hi ps k n last size words p q h l w both e =
     (part-steps lo hi ps k 128 last size p (omega arith) l (both .0) (e ∙ steps-same ps (k - 1) 128 words (omega arith) (omega arith) (both .1)))
 
 -- all pixels of a type
-pub all-within : (t : ElementType) (lo : ℤ) (top : ℕ) (ps : List ℤ) → lo ≡ least t → pos top ≡ greatest t → EachWithin ps 0 (length ps) (lowest (ltZ lo (pos 0)) top) (pos top)
+pub all-within : (t : ElementType) (lo : ℤ) (top : ℕ) (ps : List ℤ) → lo ≡ least t → pos top ≡ greatest t
+    → EachWithin ps 0 (length ps) (lowest (ltZ lo (pos 0)) top) (pos top)
     → allWithin (least t) (greatest t) ps ≡ true
 all-within t lo top ps l g each =
     let h : leZ (pos top) (greatest t) ≡ true = subst (λ (z : ℤ). leZ (pos top) z ≡ true) g (le-leb top top (omega arith)) in
     let each′ : EachWithin ps 0 (length ps) (least t) (greatest t) = λ j i.
-    wider (range-is t) top (getD ps (0 + j) (pos 0)) h (subst (λ (z : ℤ). within (lowest (ltZ z (pos 0)) top) (pos top) (getD ps (0 + j) (pos 0)) ≡ true) l (each j i)) .0 in
+    wider (range-is t) top (getD ps (0 + j) (pos 0)) h (subst (λ (z : ℤ). within (lowest (ltZ z (pos 0)) top) (pos top) (getD ps (0 + j) (pos 0)) ≡
+    true) l (each j i)) .0 in
     ap (allWithin (least t) (greatest t)) (sym (take-length ps)) ∙ each-all (least t) (greatest t) ps 0 (length ps) (omega arith) each′

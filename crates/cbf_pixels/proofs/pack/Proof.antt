@@ -42,7 +42,9 @@ returns-3 c = search needs
 write-octets-requires : tie.Need-write-octets-requires
 write-octets-requires c κs =
     let a = c .before .before .before .before .before .before .args in
-    ample-write (a .kind) (a .pixels .now) (a .out .now) (c .before .before .before .before .if1 .left) (c .before .before .all-typed .ensures (not-false (c .before .before .all-typed .result) (c .before .if3 .left))) (c .before .before .before .if2 .left)
+    ample-write (a .kind) (a .pixels .now) (a .out .now) (c .before .before .before .before .if1 .left)
+    (c .before .before .all-typed .ensures (not-false (c .before .before .all-typed .result) (c .before .if3 .left)))
+    (c .before .before .before .if2 .left)
 
 same-length-3 : tie.Need-same-length-3
 same-length-3 c = search needs
@@ -52,7 +54,9 @@ unfolding Packed
 returns-4 c =
     let a = c .before .before .before .before .before .before .before .before .before .args in
     let t = c .before .before .before .before .before .all-typed in
-    ample-done (a .kind) (a .pixels .now) (a .out .now) (c .before .before .before .before .before .before .before .if1 .left) (t .ensures (not-false (t .result) (c .before .before .before .before .if3 .left))) (c .before .before .before .before .before .before .if2 .left) _ _
+    ample-done (a .kind) (a .pixels .now) (a .out .now) (c .before .before .before .before .before .before .before .if1 .left)
+    (t .ensures (not-false (t .result) (c .before .before .before .before .if3 .left)))
+    (c .before .before .before .before .before .before .if2 .left) _ _
     (c .before .before .write-octets .ensures .0) (c .before .before .write-octets .ensures .1)
 
 pub pack-spec : {M : Type 1} → statement M

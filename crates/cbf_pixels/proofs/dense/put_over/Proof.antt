@@ -24,15 +24,18 @@ narrow-requires c κs = search needs
 bits-of-far-requires : tie.Need-bits-of-far-requires
 bits-of-far-requires c κs = search needs
 
-form-15 : (c : tie.Then1) → Form (c .before .before .before .args .d) 15 (octets 1 128 ++ octets 2 32768 ++ octets 4 2147483648 ++ octets 8 (bits 8 (c .before .before .before .args .d)))
+form-15 : (c : tie.Then1) → Form (c .before .before .before .args .d) 15
+    (octets 1 128 ++ octets 2 32768 ++ octets 4 2147483648 ++ octets 8 (bits 8 (c .before .before .before .args .d)))
 form-15 c =
     let s = c .before .before .before in
-    form8 (s .args .d) (narrow-false (s .args .d) 2147483648 (c .before .narrow .result) (s .fits .d) (c .before .narrow .ensures) (not-true (c .before .narrow .result) (c .if1 .taken)))
+    form8 (s .args .d) (narrow-false (s .args .d) 2147483648 (c .before .narrow .result) (s .fits .d) (c .before .narrow .ensures)
+    (not-true (c .before .narrow .result) (c .if1 .taken)))
 
 near : (c : tie.Else1) → natAbs (c .before .before .before .args .d) < 2147483648
 near c =
     let s = c .before .before .before in
-    narrow-true (s .args .d) 2147483648 (c .before .narrow .result) (s .fits .d) (c .before .narrow .ensures) (not-false (c .before .narrow .result) (c .if1 .left))
+    narrow-true (s .args .d) 2147483648 (c .before .narrow .result) (s .fits .d) (c .before .narrow .ensures)
+    (not-false (c .before .narrow .result) (c .if1 .left))
 
 put-15-requires : tie.Need-put-15-requires
 put-15-requires c κs =
@@ -62,7 +65,8 @@ beyond-requires-2 : tie.Need-beyond-requires-2
 beyond-requires-2 c κs = search needs
 
 -- how many widths do not hold the difference
-held-over : (c : tie.After-beyond2) → c .before .beyond .result + c .beyond2 .result ≡ over (c .before .before .before .before .before .args .d) 128 + over (c .before .before .before .before .before .args .d) 32768
+held-over : (c : tie.After-beyond2) → c .before .beyond .result + c .beyond2 .result ≡ over (c .before .before .before .before .before .args .d) 128 +
+    over (c .before .before .before .before .before .args .d) 32768
 held-over c =
     let s = c .before .before .before .before .before in
     let a = c .before .beyond .ensures ∙ ap (λ (z : ℤ). over z 128) (toZ-ofZ (s .fits .d)) in
@@ -70,7 +74,13 @@ held-over c =
     omega arith
 
 few-over : (c : tie.After-beyond2) → c .before .beyond .result + c .beyond2 .result ≤ 2
-few-over c = omega (arith, held-over c, over-few (c .before .before .before .before .before .args .d) 128, over-few (c .before .before .before .before .before .args .d) 32768)
+few-over c = omega (
+  arith,
+  held-over c,
+  over-few (c .before .before .before .before .before .args .d) 128,
+  over-few
+      (c .before .before .before .before .before .args .d) 32768,
+)
 
 add-c : tie.Need-add-c
 add-c c = omega (arith, few-over c)
@@ -85,7 +95,11 @@ put8-requires : tie.Need-put8-requires
 put8-requires c κs = search needs
 
 form-length-requires : tie.Need-form-length-requires
-form-length-requires c κs = (c .before .before .before .before .before .before .before .before .before .before .before .pre .0, few-over (c .before .before .before .before .before .before))
+form-length-requires c κs = (
+  c .before .before .before .before .before .before .before .before .before .before .before .pre .0,
+  few-over
+      (c .before .before .before .before .before .before),
+)
 
 add-result-2 : tie.Need-add-result-2
 add-result-2 c = search needs
@@ -101,7 +115,8 @@ returns-2 c =
     let n = raised-is (s .args .d) (r .result) (near (w .before .before)) (r .ensures .0 ∙ ap (λ (z : ℤ). z +ℤ pos 4294967296) (toZ-ofZ (s .fits .d))) in
     let t = stored (s .args .d) (r .result) (w .before .beyond .result + w .beyond2 .result) (near (w .before .before)) n (held-over w) in
     put-stored (s .args .out .now) (s .args .at) _ _ t
-    (c .before .before .before .put8 .ensures ∙ ap (λ (m : ℕ). sets (s .args .out .now) (s .args .at) (octets 8 m)) (c .before .before .before .before .before .stored .ensures))
+    (c .before .before .before .put8 .ensures ∙ ap (λ (m : ℕ). sets (s .args .out .now) (s .args .at) (octets 8 m))
+    (c .before .before .before .before .before .stored .ensures))
     (ap (λ (m : ℕ). s .args .at + m) (c .form-length .ensures .0))
 
 pub put-over-spec : {M : Type 1} → statement M

@@ -8,7 +8,9 @@ use borrow.Author.Needs.{needs}
 use Rattle.cbf_pixels.proofs.dense.stored.Statement.{statement}
 use Rattle.cbf_pixels.proofs.dense.stored.Tie as tie
 
-is : (s : tie.Start) → (getD (s .args .table .now) (s .args .c) 0 < 64) × (s .args .n * 2 ^ getD (s .args .table .now) (s .args .c) 0 % 18446744073709551616 + getD (s .args .table .now) (s .args .c + 3) 0 ≡ storedAs (s .args .c) (s .args .n)) × (storedAs (s .args .c) (s .args .n) < 2 ^ 63)
+is : (s : tie.Start) → (getD (s .args .table .now) (s .args .c) 0 < 64)
+    × (s .args .n * 2 ^ getD (s .args .table .now) (s .args .c) 0 % 18446744073709551616 + getD (s .args .table .now) (s .args .c + 3) 0 ≡ storedAs
+    (s .args .c) (s .args .n)) × (storedAs (s .args .c) (s .args .n) < 2 ^ 63)
 is s = stored-is (s .args .table .now) (s .args .n) (s .args .c) (s .pre .0) (s .pre .1) (s .pre .2)
 
 mul-shift : tie.Need-mul-shift

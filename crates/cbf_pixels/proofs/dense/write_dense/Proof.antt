@@ -29,7 +29,9 @@ mul-z c = omega (arith, c .before .before .before .pre .1 .pixels)
 shared-slice-copy-out-z : tie.Need-shared-slice-copy-out-z Inv-loop μ-loop
 shared-slice-copy-out-z c = omega (arith, c .before .before .before .pre .1 .pixels)
 
-room : (c : tie.After-put-over-arg Inv-loop μ-loop) → Writable (c .before .before .before .before .before .args .pixels .now) (c .before .before .before .before .before .args .k + c .before .before .before .loop .j) 1 (toZ w64 (c .before .before .before .loop .before)) (c .before .before .before .loop .out) (c .before .before .before .loop .next)
+room : (c : tie.After-put-over-arg Inv-loop μ-loop) → Writable (c .before .before .before .before .before .args .pixels .now)
+    (c .before .before .before .before .before .args .k + c .before .before .before .loop .j) 1 (toZ w64 (c .before .before .before .loop .before))
+    (c .before .before .before .loop .out) (c .before .before .before .loop .next)
 room c = along-writable (writable-word (c .before .before .before .before .before .pre .1)) (c .before .before .before .loop .inv .0) 1 _ refl (omega arith)
 
 sub-put-over : tie.Need-sub-put-over Inv-loop μ-loop

@@ -7,10 +7,16 @@ use Rattle.cbf_pixels.proofs.measure.beyond.Statement.{statement}
 use Rattle.cbf_pixels.proofs.measure.beyond.Tie as tie
 
 returns : tie.Need-returns
-returns c = (sym (over-no (pos (c .before .args .m)) (c .before .args .half) (lt-ltb (c .before .args .m) (c .before .args .half) (c .if1 .taken))), omega arith)
+returns c = (
+  sym (over-no (pos (c .before .args .m)) (c .before .args .half) (lt-ltb (c .before .args .m) (c .before .args .half) (c .if1 .taken))),
+  omega arith,
+)
 
 returns-2 : tie.Need-returns-2
-returns-2 c = (sym (over-yes (pos (c .before .args .m)) (c .before .args .half) (le-ltb (c .before .args .m) (c .before .args .half) (c .if1 .left))), omega arith)
+returns-2 c = (
+  sym (over-yes (pos (c .before .args .m)) (c .before .args .half) (le-ltb (c .before .args .m) (c .before .args .half) (c .if1 .left))),
+  omega arith,
+)
 
 pub beyond-spec : {M : Type 1} → statement M
 beyond-spec = tie.close (tie.spec returns returns-2)

@@ -27,7 +27,13 @@ greatest-of-requires : tie.Need-greatest-of-requires Inv-loop μ-loop
 greatest-of-requires c κs = search needs
 
 loop-holds : tie.Need-loop-holds Inv-loop μ-loop
-loop-holds c = (all-none (c .before .before .args .kind) (c .before .least-of .ensures) (c .greatest-of .ensures) (c .before .before .args .pixels .now), omega arith, omega arith, refl)
+loop-holds c = (
+  all-none (c .before .before .args .kind) (c .before .least-of .ensures) (c .greatest-of .ensures)
+      (c .before .before .args .pixels .now),
+  omega arith,
+  omega arith,
+  refl,
+)
 
 window-run-requires : tie.Need-window-run-requires Inv-loop μ-loop
 window-run-requires c κs = search needs

@@ -54,7 +54,8 @@ returns-4 c =
     let r = c .size-of-words in
     let e : a .n ≡ 128 = omega arith in
     let both = t .ensures .0 (not-false (t .result) (c .before .before .if3 .left)) in
-    let m = part-words (held (a .lo)) (held (a .hi)) (a .pixels .now) (a .k) (a .n) (held (a .last)) (r .result) (t .last .1 .1 .1 .1 .1 .0) (omega arith) e (s .pre .1)
+    let m = part-words (held (a .lo)) (held (a .hi)) (a .pixels .now) (a .k) (a .n) (held (a .last)) (r .result) (t .last .1 .1 .1 .1 .1 .0)
+    (omega arith) e (s .pre .1)
     (toZ-ofZ (s .fits .last) ∙ s .pre .3 (omega arith)) (t .ensures .1) both (r .ensures .0) in
     ((held-is (s .fits .lo) (s .fits .hi) (s .fits .last) (part (a .pixels .now) (a .k) (a .n)) m, omega (arith, r .ensures .1)), t .ensures .1)
 

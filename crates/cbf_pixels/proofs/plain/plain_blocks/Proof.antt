@@ -23,10 +23,12 @@ shared-slice-read-if2 : tie.Need-shared-slice-read-if2 Inv-loop μ-loop
 shared-slice-read-if2 c = omega arith
 
 returns-2 : tie.Need-returns-2 Inv-loop μ-loop
-returns-2 c = run-none (c .before .before .before .before .args .octets .now) (c .before .before .before .before .args .i) (c .before .before .before .before .args .limit) (c .before .before .before .before .pre .0)
+returns-2 c = run-none (c .before .before .before .before .args .octets .now) (c .before .before .before .before .args .i)
+    (c .before .before .before .before .args .limit) (c .before .before .before .before .pre .0)
 
 loop-holds : tie.Need-loop-holds Inv-loop μ-loop
-loop-holds c = run-none (c .before .before .before .before .args .octets .now) (c .before .before .before .before .args .i) (c .before .before .before .before .args .limit) (c .before .before .before .before .pre .0)
+loop-holds c = run-none (c .before .before .before .before .args .octets .now) (c .before .before .before .before .args .i)
+    (c .before .before .before .before .args .limit) (c .before .before .before .before .pre .0)
 
 sub-loop : tie.Need-sub-loop Inv-loop μ-loop
 sub-loop c = c .loop .inv .few
@@ -57,7 +59,8 @@ loop-again c =
     let a = c .before .before .before .before .before .before .before .before .before .args in
     let l = c .before .before .before .before .loop in
     let h = l .inv .inside in
-    run-more (a .octets .now) (a .i) (a .limit) (l .n) (c .before .before .before .before .before .before .before .before .before .pre .1) (l .inv) (omega arith) (omega arith) (c .before .escapes .ensures (c .if4 .left))
+    run-more (a .octets .now) (a .i) (a .limit) (l .n) (c .before .before .before .before .before .before .before .before .before .pre .1) (l .inv)
+    (omega arith) (omega arith) (c .before .escapes .ensures (c .if4 .left))
 
 returns-5 : tie.Need-returns-5 Inv-loop μ-loop
 returns-5 c = c .before .loop .inv

@@ -25,7 +25,8 @@ returns c = λ e.
     let a = c .before .before .args in
     let h = leb-true (c .spread .result) (a .limit + (a .limit + 1)) e in
     subst (λ (b : Bool). EachWithin (a .pixels .now) (a .k) (a .n) (lowest b (a .limit)) (pos (a .limit))) (sym (c .before .if1 .taken))
-    (λ j l. let s = c .spread .ensures j l in within-signed (getD (a .pixels .now) (a .k + j) (pos 0)) (a .limit) (c .before .before .pre .1) (omega (arith, s .0), s .1))
+    (λ j l. let s = c .spread .ensures j l in within-signed (getD (a .pixels .now) (a .k + j) (pos 0)) (a .limit) (c .before .before .pre .1)
+    (omega (arith, s .0), s .1))
 
 spread-up-requires : tie.Need-spread-up-requires
 spread-up-requires c κs = search needs
@@ -35,7 +36,8 @@ returns-2 c = λ e.
     let a = c .before .before .args in
     let h = leb-true (c .spread-up .result) (a .limit) e in
     subst (λ (b : Bool). EachWithin (a .pixels .now) (a .k) (a .n) (lowest b (a .limit)) (pos (a .limit))) (sym (c .before .if1 .left))
-    (λ j l. let s = c .spread-up .ensures j l in within-unsigned (getD (a .pixels .now) (a .k + j) (pos 0)) (a .limit) (c .before .before .pre .1) (omega (arith, s .0), s .1))
+    (λ j l. let s = c .spread-up .ensures j l in within-unsigned (getD (a .pixels .now) (a .k + j) (pos 0)) (a .limit) (c .before .before .pre .1)
+    (omega (arith, s .0), s .1))
 
 pub each-within-spec : {M : Type 1} → statement M
 each-within-spec =

@@ -14,7 +14,8 @@ use Rattle.cbf_pixels.proofs.range.spread_up.Statement.{statement}
 use Rattle.cbf_pixels.proofs.range.spread_up.Tie as tie
 
 abbrev Inv-loop : tie.InvT-loop
-Inv-loop pixels k n all₀ j₀ all j = (j ≤ n) × ((i : ℕ) → i < j → bits 8 (getD pixels (k + i) (pos 0)) ≤ all) × ((i : ℕ) → i < j → mag (getD pixels (k + i) (pos 0)) < 2 ^ 63)
+Inv-loop pixels k n all₀ j₀ all j = (j ≤ n) × ((i : ℕ) → i < j → bits 8 (getD pixels (k + i) (pos 0)) ≤ all)
+    × ((i : ℕ) → i < j → mag (getD pixels (k + i) (pos 0)) < 2 ^ 63)
 
 abbrev μ-loop : tie.MeasureT-loop
 μ-loop pixels k n all₀ j₀ all j = n - j

@@ -25,8 +25,11 @@ returns c =
     let g = c .gather .ensures in
     let b = ap (λ (t : Bool). raisedBy t (a .limit)) (sym (c .before .before .if1 .taken)) in (
       (λ e.
-          let most = leb-true (c .gather .result) (a .limit + (a .limit + 1)) e in
-          (gathered-within (a .signed) (a .limit) (a .limit + 1) g b (s .pre .2) most, gathered-steps (a .signed) (a .limit) (a .limit + 1) g b (s .pre .2) most)),
+          let most = leb-true (c .gather .result) (a .limit + (a .limit + 1)) e in (
+            gathered-within (a .signed) (a .limit) (a .limit + 1) g b (s .pre .2) most,
+            gathered-steps (a .signed) (a .limit) (a .limit + 1) g b
+                (s .pre .2) most,
+          )),
       g .long,
     )
 

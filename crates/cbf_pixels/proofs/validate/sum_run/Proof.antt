@@ -43,8 +43,11 @@ loop-again c =
     let a = c .before .before .before .before .before .args in
     let p = c .before .before .before .before .before .pre in
     let l = c .before .before .before .loop in
-    let t = c .before .before .loop-test .taken in
-    (omega arith, glides-more (a .octets .now) (a .i) (l .j) (l .total) (c .raised .result) (l .inv .1) (omega (arith, p .0)) (p .1 (l .j) t) (c .raised .ensures .0) (c .raised .ensures .1))
+    let t = c .before .before .loop-test .taken in (
+      omega arith,
+      glides-more (a .octets .now) (a .i) (l .j) (l .total) (c .raised .result) (l .inv .1) (omega (arith, p .0)) (p .1 (l .j) t)
+          (c .raised .ensures .0) (c .raised .ensures .1),
+    )
 
 returns : tie.Need-returns Inv-loop μ-loop
 returns c =

@@ -46,7 +46,8 @@ sub-waits : tie.Need-sub-waits Inv-loop μ-loop
 sub-waits c = c .before .loop .inv .1
 
 passed-requires : tie.Need-passed-requires Inv-loop μ-loop
-passed-requires c κs = subst (λ (n : ℕ). Between n (c .before .before .before .loop .at .biased)) (c .before .before .before .before .before .before .biased-greatest .ensures) (c .before .before .before .loop .inv .2)
+passed-requires c κs = subst (λ (n : ℕ). Between n (c .before .before .before .loop .at .biased))
+    (c .before .before .before .before .before .before .biased-greatest .ensures) (c .before .before .before .loop .inv .2)
 
 returns : tie.Need-returns Inv-loop μ-loop
 returns c =
@@ -55,7 +56,8 @@ returns c =
     let start = c .before .before .before .before .before .biased-of in
     let l = c .before .before .before .before .loop in
     let w = c .before .before .waits .ensures .0 (c .before .if1 .taken) in
-    valid-to (a .kind) (a .octets .now) (a .ended) (a .s .pixel) (a .s .next) (a .count) (top .result) (start .result) (top .ensures) (start-is (c .before .before .before .before .before)) _
+    valid-to (a .kind) (a .octets .now) (a .ended) (a .s .pixel) (a .s .next) (a .count) (top .result) (start .result) (top .ensures)
+    (start-is (c .before .before .before .before .before)) _
     (l .k) (l .at .biased) (l .at .next) (l .inv .3) (l .inv .2) (l .inv .0) (l .inv .1) (l .inv .4) (inr (w .0, omega (arith, w .1))) (c .passed .ensures)
 
 sub-pass-turn : tie.Need-sub-pass-turn Inv-loop μ-loop
@@ -63,8 +65,13 @@ sub-pass-turn c = c .before .before .before .loop .inv .0
 
 pass-turn-requires : tie.Need-pass-turn-requires Inv-loop μ-loop
 pass-turn-requires c κs =
-    let I = c .before .before .before .loop .inv in
-    (top-at (c .before .before .before .before .before .before .before .before .args .kind) (c .before .before .before .before .before .before .biased-greatest .ensures), I .2, I .1, omega (arith, c .before .before .loop-test .taken))
+    let I = c .before .before .before .loop .inv in (
+      top-at (c .before .before .before .before .before .before .before .before .args .kind)
+          (c .before .before .before .before .before .before .biased-greatest .ensures),
+      I .2,
+      I .1,
+      omega (arith, c .before .before .loop-test .taken),
+    )
 
 returns-2 : tie.Need-returns-2 Inv-loop μ-loop
 returns-2 c =
@@ -75,11 +82,13 @@ returns-2 c =
     let w = c .before .before .before .before .waits .ensures .1 (c .before .before .before .if1 .left) in
     let t = c .before .before .pass-turn in
     let h = l .inv .0 in
-    valid-not (a .kind) (a .octets .now) (a .ended) (a .s .pixel) (a .s .next) (a .count) (top .result) (start .result) (top .ensures) (start-is (c .before .before .before .before .before .before .before)) _
+    valid-not (a .kind) (a .octets .now) (a .ended) (a .s .pixel) (a .s .next) (a .count) (top .result) (start .result) (top .ensures)
+    (start-is (c .before .before .before .before .before .before .before)) _
     (l .k + t .result .count)
     (λ tail b. passes-fails (top .result) (a .octets .now) (start .result) (a .s .next) (l .k) (t .result .count) (l .at .biased) (l .at .next) tail (l .inv .3)
     (t .ensures .passed .failed (c .if2 .taken) tail (enough (a .octets .now) tail (l .at .next) b w)))
-    (omega (arith, t .ensures .few)) refl (omega arith) (c .before .before .before .before .before .before .before .before .before .before .before .pre .1) (omega arith)
+    (omega (arith, t .ensures .few)) refl (omega arith) (c .before .before .before .before .before .before .before .before .before .before .before
+    .pre .1) (omega arith)
 
 add-k : tie.Need-add-k Inv-loop μ-loop
 add-k c =
@@ -88,7 +97,8 @@ add-k c =
     omega (arith, t .ensures .few, c .before .before .before .before .before .before .before .before .before .before .before .before .fits .count)
 
 loop-less : tie.Need-loop-less Inv-loop μ-loop
-loop-less c = let t = c .before .before .before .pass-turn in let h = c .before .before .before .before .before .before .loop-test .taken in omega (arith, t .ensures .some, t .ensures .few)
+loop-less c = let t = c .before .before .before .pass-turn in let h = c .before .before .before .before .before .before .loop-test .taken in omega
+    (arith, t .ensures .some, t .ensures .few)
 
 loop-again : tie.Need-loop-again Inv-loop μ-loop
 loop-again c =
@@ -102,12 +112,14 @@ loop-again c =
       omega (arith, t .ensures .few),
       t .ensures .passed .inside,
       P .0,
-      passes-passes (top .result) (a .octets .now) (start .result) (a .s .next) (l .k) (t .result .count) (l .at .biased) (l .at .next) (t .result .biased) (t .result .next) (l .inv .3) (P .1),
+      passes-passes (top .result) (a .octets .now) (start .result) (a .s .next) (l .k) (t .result .count) (l .at .biased) (l .at .next)
+          (t .result .biased) (t .result .next) (l .inv .3) (P .1),
       λ z. let y : ⊥ = omega (arith, t .ensures .some) in absurd y,
     )
 
 passed-requires-2 : tie.Need-passed-requires-2 Inv-loop μ-loop
-passed-requires-2 c κs = subst (λ (n : ℕ). Between n (c .before .loop .at .biased)) (c .before .before .before .before .biased-greatest .ensures) (c .before .loop .inv .2)
+passed-requires-2 c κs = subst (λ (n : ℕ). Between n (c .before .loop .at .biased)) (c .before .before .before .before .biased-greatest .ensures)
+    (c .before .loop .inv .2)
 
 returns-3 : tie.Need-returns-3 Inv-loop μ-loop
 returns-3 c =
@@ -115,8 +127,10 @@ returns-3 c =
     let top = c .before .before .before .before .before .biased-greatest in
     let start = c .before .before .before .biased-of in
     let l = c .before .before .loop in
-    valid-to (a .kind) (a .octets .now) (a .ended) (a .s .pixel) (a .s .next) (a .count) (top .result) (start .result) (top .ensures) (start-is (c .before .before .before)) _
-    (l .k) (l .at .biased) (l .at .next) (l .inv .3) (l .inv .2) (l .inv .0) (l .inv .1) (l .inv .4) (inl (omega (arith, l .inv .0, c .before .loop-test .left))) (c .passed2 .ensures)
+    valid-to (a .kind) (a .octets .now) (a .ended) (a .s .pixel) (a .s .next) (a .count) (top .result) (start .result) (top .ensures)
+    (start-is (c .before .before .before)) _
+    (l .k) (l .at .biased) (l .at .next) (l .inv .3) (l .inv .2) (l .inv .0) (l .inv .1) (l .inv .4)
+    (inl (omega (arith, l .inv .0, c .before .loop-test .left))) (c .passed2 .ensures)
 
 pub validate-part-spec : {M : Type 1} → statement M
 validate-part-spec =

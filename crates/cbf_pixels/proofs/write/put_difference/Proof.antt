@@ -16,35 +16,44 @@ use Rattle.cbf_pixels.proofs.write.put_difference.Tie as tie
 -- what the tests say of the difference
 
 below-128 : (c : tie.Then1) → natAbs (c .before .before .before .args .d) < 128
-below-128 c = narrow-true (c .before .before .before .args .d) 128 (c .before .narrow .result) (c .before .before .before .fits .d) (c .before .narrow .ensures) (c .if1 .taken)
+below-128 c = narrow-true (c .before .before .before .args .d) 128 (c .before .narrow .result) (c .before .before .before .fits .d)
+    (c .before .narrow .ensures) (c .if1 .taken)
 
 from-128 : (c : tie.Else1) → 128 ≤ natAbs (c .before .before .before .args .d)
-from-128 c = narrow-false (c .before .before .before .args .d) 128 (c .before .narrow .result) (c .before .before .before .fits .d) (c .before .narrow .ensures) (c .if1 .left)
+from-128 c = narrow-false (c .before .before .before .args .d) 128 (c .before .narrow .result) (c .before .before .before .fits .d)
+    (c .before .narrow .ensures) (c .if1 .left)
 
 below-32768 : (c : tie.Then2) → natAbs (c .before .before .before .before .before .args .d) < 32768
-below-32768 c = narrow-true (c .before .before .before .before .before .args .d) 32768 (c .before .narrow2 .result) (c .before .before .before .before .before .fits .d) (c .before .narrow2 .ensures) (c .if2 .taken)
+below-32768 c = narrow-true (c .before .before .before .before .before .args .d) 32768 (c .before .narrow2 .result)
+    (c .before .before .before .before .before .fits .d) (c .before .narrow2 .ensures) (c .if2 .taken)
 
 from-32768 : (c : tie.Else2) → 32768 ≤ natAbs (c .before .before .before .before .before .args .d)
-from-32768 c = narrow-false (c .before .before .before .before .before .args .d) 32768 (c .before .narrow2 .result) (c .before .before .before .before .before .fits .d) (c .before .narrow2 .ensures) (c .if2 .left)
+from-32768 c = narrow-false (c .before .before .before .before .before .args .d) 32768 (c .before .narrow2 .result)
+    (c .before .before .before .before .before .fits .d) (c .before .narrow2 .ensures) (c .if2 .left)
 
 below-2147483648 : (c : tie.Then3) → natAbs (c .before .before .before .before .before .before .before .args .d) < 2147483648
-below-2147483648 c = narrow-true (c .before .before .before .before .before .before .before .args .d) 2147483648 (c .before .narrow3 .result) (c .before .before .before .before .before .before .before .fits .d) (c .before .narrow3 .ensures) (c .if3 .taken)
+below-2147483648 c = narrow-true (c .before .before .before .before .before .before .before .args .d) 2147483648 (c .before .narrow3 .result)
+    (c .before .before .before .before .before .before .before .fits .d) (c .before .narrow3 .ensures) (c .if3 .taken)
 
 from-2147483648 : (c : tie.Else3) → 2147483648 ≤ natAbs (c .before .before .before .before .before .before .before .args .d)
-from-2147483648 c = narrow-false (c .before .before .before .before .before .before .before .args .d) 2147483648 (c .before .narrow3 .result) (c .before .before .before .before .before .before .before .fits .d) (c .before .narrow3 .ensures) (c .if3 .left)
+from-2147483648 c = narrow-false (c .before .before .before .before .before .before .before .args .d) 2147483648 (c .before .narrow3 .result)
+    (c .before .before .before .before .before .before .before .fits .d) (c .before .narrow3 .ensures) (c .if3 .left)
 
 -- and of its octets
 
 form-1 : (c : tie.Then1) → Form (c .before .before .before .args .d) 1 (octets 1 (bits 1 (c .before .before .before .args .d)))
 form-1 c = form1 (c .before .before .before .args .d) (below-128 c)
 
-form-3 : (c : tie.Then2) → Form (c .before .before .before .before .before .args .d) 3 (octets 1 128 ++ octets 2 (bits 2 (c .before .before .before .before .before .args .d)))
+form-3 : (c : tie.Then2) → Form (c .before .before .before .before .before .args .d) 3
+    (octets 1 128 ++ octets 2 (bits 2 (c .before .before .before .before .before .args .d)))
 form-3 c = form2 (c .before .before .before .before .before .args .d) (from-128 (c .before .before)) (below-32768 c)
 
-form-7 : (c : tie.Then3) → Form (c .before .before .before .before .before .before .before .args .d) 7 (octets 1 128 ++ octets 2 32768 ++ octets 4 (bits 4 (c .before .before .before .before .before .before .before .args .d)))
+form-7 : (c : tie.Then3) → Form (c .before .before .before .before .before .before .before .args .d) 7
+    (octets 1 128 ++ octets 2 32768 ++ octets 4 (bits 4 (c .before .before .before .before .before .before .before .args .d)))
 form-7 c = form4 (c .before .before .before .before .before .before .before .args .d) (from-32768 (c .before .before)) (below-2147483648 c)
 
-form-15 : (c : tie.Else3) → Form (c .before .before .before .before .before .before .before .args .d) 15 (octets 1 128 ++ octets 2 32768 ++ octets 4 2147483648 ++ octets 8 (bits 8 (c .before .before .before .before .before .before .before .args .d)))
+form-15 : (c : tie.Else3) → Form (c .before .before .before .before .before .before .before .args .d) 15
+    (octets 1 128 ++ octets 2 32768 ++ octets 4 2147483648 ++ octets 8 (bits 8 (c .before .before .before .before .before .before .before .args .d)))
 form-15 c = form8 (c .before .before .before .before .before .before .before .args .d) (from-2147483648 c)
 
 narrow-requires : tie.Need-narrow-requires

@@ -47,7 +47,8 @@ loop-again : tie.Need-loop-again Inv-loop μ-loop
 loop-again c =
     let s = c .before .before .before .before .before .before .before .before in
     let l = c .before .before .before .before .before .before .loop in (
-      upto-more (writable-word (s .pre)) (l .inv .0) 4 _ refl (omega arith) (s .args .k + l .j + 3) (omega arith) (omega arith) (c .before .before .before .write-four .ensures),
+      upto-more (writable-word (s .pre)) (l .inv .0) 4 _ refl (omega arith) (s .args .k + l .j + 3) (omega arith) (omega arith)
+          (c .before .before .before .write-four .ensures),
       omega arith,
     )
 

@@ -14,7 +14,8 @@ use Rattle.cbf_pixels.proofs.write.write_octets.Statement.{statement}
 use Rattle.cbf_pixels.proofs.write.write_octets.Tie as tie
 
 abbrev Inv-loop : tie.InvT-loop
-Inv-loop pixels out₀ start table last₀ at₀ used₀ k₀ out last at used k = Along pixels 0 (length pixels) (pos 0) out₀ start k out last at (length pixels - k) × (table ≡ forms)
+Inv-loop pixels out₀ start table last₀ at₀ used₀ k₀ out last at used k = Along pixels 0 (length pixels) (pos 0) out₀ start k out last at
+    (length pixels - k) × (table ≡ forms)
 
 abbrev μ-loop : tie.MeasureT-loop
 μ-loop pixels out₀ start table last₀ at₀ used₀ k₀ out last at used k = length pixels - k
@@ -58,7 +59,8 @@ run c =
 room : (c : tie.After-window-run Inv-loop μ-loop) → Writable (c .before .before .before .before .args .pixels .now) (c .before .before .loop .k) (c .window-run .result) (toZ w64 (c .before .before .loop .last)) (c .before .before .loop .out) (c .before .before .loop .at)
 room c =
     let l = c .before .before .loop in
-    along-writable (writable (c .before .before .before .before)) (l .inv .0) (c .window-run .result) (l .k) (omega arith) (omega (arith, c .window-run .ensures .inside))
+    along-writable (writable (c .before .before .before .before)) (l .inv .0) (c .window-run .result) (l .k) (omega arith)
+    (omega (arith, c .window-run .ensures .inside))
 
 write-run-requires : tie.Need-write-run-requires Inv-loop μ-loop
 write-run-requires c κs =
@@ -66,14 +68,21 @@ write-run-requires c κs =
     (r .small, r .run, r .before, window-room r (room (c .before .before)))
 
 add-at : tie.Need-add-at Inv-loop μ-loop
-add-at c = omega (arith, window-room (run (c .before .before .before .before .before)) (room (c .before .before .before .before .before)), along-same (c .before .before .before .before .before .before .before .loop .inv .0))
+add-at c = omega (
+  arith,
+  window-room (run (c .before .before .before .before .before)) (room (c .before .before .before .before .before)),
+  along-same
+      (c .before .before .before .before .before .before .before .loop .inv .0),
+)
 
 -- the part of a turn, where its two ways meet
 joined : (c : tie.Joined1 Inv-loop μ-loop)
     → (0 < c .if1 .n)
     × (c .before .before .before .loop .k + c .if1 .n ≤ length (c .before .before .before .before .before .args .pixels .now))
     × (length (c .before .before .before .loop .inv .0 .behind) ≤ c .if1 .n)
-    × WroteOver (c .before .before .before .before .before .args .pixels .now) (c .before .before .before .loop .k) (c .if1 .n) (toZ w64 (c .before .before .before .loop .last)) (c .before .before .before .loop .out) (c .before .before .before .loop .at) (c .if1 .out) (c .if1 .at)
+    × WroteOver (c .before .before .before .before .before .args .pixels .now) (c .before .before .before .loop .k) (c .if1 .n)
+    (toZ w64 (c .before .before .before .loop .last)) (c .before .before .before .loop .out) (c .before .before .before .loop .at) (c .if1 .out)
+    (c .if1 .at)
     (length (c .before .before .before .before .before .args .pixels .now) - (c .before .before .before .loop .k + c .if1 .n))
 joined c =
     let a = c .before .before .before .loop .inv .0 in
@@ -89,8 +98,14 @@ joined c =
     let r = run (c .before) in
     let e = w .8 in
     let g = w .0 .left in
-    let b = r .run .blocks in
-    (omega arith, omega (arith, r .run .inside), omega (arith, a .seven), over-as (over-none (window-wrote r (w .2 .ensures) refl) (length (c .before .before .before .before .before .args .pixels .now) - (c .before .before .before .loop .k + c .if1 .n))) e (w .5) (w .6) (omega arith)))
+    let b = r .run .blocks in (
+      omega arith,
+      omega (arith, r .run .inside),
+      omega (arith, a .seven),
+      over-as
+          (over-none (window-wrote r (w .2 .ensures) refl) (length (c .before .before .before .before .before .args .pixels .now) -
+          (c .before .before .before .loop .k + c .if1 .n))) e (w .5) (w .6) (omega arith),
+    ))
     (c .if1 .came)
 
 add-k : tie.Need-add-k Inv-loop μ-loop

@@ -27,7 +27,8 @@ returns : tie.Need-returns
 returns c =
     let s = c .before .before .before .before .before .before .before in
     let l = c .before .before .before .before .before .dense .ensures (c .before .before .before .before .if1 .taken) in
-    over-word (s .pre .3 .before) (over-limit (c .before .before .write-dense .ensures) (length (s .args .pixels .now) - (s .args .k + s .args .n)) (omega arith))
+    over-word (s .pre .3 .before) (over-limit (c .before .before .write-dense .ensures) (length (s .args .pixels .now) - (s .args .k + s .args .n))
+    (omega arith))
 
 write-few-requires : tie.Need-write-few-requires
 write-few-requires c κs =
