@@ -313,6 +313,16 @@ module _ (top : ℕ) (os : List ℕ) (biased i : ℕ) where
   passed-to n biased′ j b p h =
       record { failed = λ z. let l = b .0 in let y : ⊥ = omega arith in absurd y; passed = λ _. (b, p); inside = h }
 
+  -- n pixels more
+  pub passed-more : (m n biased′ j biased″ k : ℕ) → Passes top os biased i m biased′ j → ((tail : List ℕ) → Enough os tail i 480 → Enough os tail j 480)
+      → Passed top os biased′ j n biased″ k → Passed top os biased i (m + n) biased″ k
+  passed-more m n biased′ j biased″ k p e q =
+      record {
+        failed = λ z tail w. passes-fails m n biased′ j tail p (q .failed z tail (e tail w));
+        passed = λ z. (q .passed z .0, passes-passes m n biased′ j biased″ k p (q .passed z .1));
+        inside = q .inside;
+      }
+
   -- after m pixels, for which there were octets enough
   pub passed-stop : (n m biased′ j : ℕ) → Passes top os biased i m biased′ j → j ≤ i + 15 * m → ((tail : List ℕ) → Enough os tail j 15 → Fails top os tail biased′ j 1) → m < n → n ≤ 32
       → Passed top os biased i n 0 0

@@ -2,6 +2,7 @@
 use crate::mixed;
 use crate::plain;
 use crate::validate;
+use crate::validate::State;
 ghost use mathlib.Core.Path.{_≡_};
 ghost use mathlib.Core.Bool.{true};
 ghost use Prim.Native.Nat.{_+_, _<_, _≤_};
@@ -44,11 +45,14 @@ fn may_run(octets: &[u8], i: usize, way: u64) -> bool
     octets[i] != 128
 }
 
-// Whether there are octets and pixels enough for mixed octets, and the type is wide enough.
-fn mixed_fits(len: usize, i: usize, top: u64, left: usize) -> bool
+// Whether mixed octets are tried: there are octets and pixels enough, and the type is wide enough.
+fn may_mix(len: usize, i: usize, top: u64, left: usize, way: u64) -> bool
     requires { ⌜ i ≤ len ⌝ }
     ensures { λ r. ⌜ (r ≡ true → (biasedLeast + 65535 ≤ top) × (1 ≤ i) × (i + 192 ≤ len) × (192 ≤ left)) ⌝ }
 {
+    if 1 < way {
+        return false;
+    }
     if i < 1 {
         return false;
     }
@@ -61,16 +65,54 @@ fn mixed_fits(len: usize, i: usize, top: u64, left: usize) -> bool
     192 <= len - i
 }
 
+// Whether singles go on after k of them from the octet i on: they took more than two octets each, and octets for a part of
+// them are left.
+fn go_on(s: State, i: usize, k: usize, left: usize, len: usize) -> bool
+    requires { ⌜ (i ≤ len) × (s .next ≤ len) ⌝ }
+    ensures { λ r. ⌜ (r ≡ true → (s .biased ≡ 0 → ⊥) × (k < left) × (s .next + 480 ≤ len)) ⌝ }
+{
+    if s.biased == 0 {
+        return false;
+    }
+    if 128 <= k {
+        return false;
+    }
+    if left <= k {
+        return false;
+    }
+    let before = len - i;
+    let behind = len - s.next;
+    if before < behind {
+        return false;
+    }
+    if before - behind <= 2 * k {
+        return false;
+    }
+    480 <= behind
+}
+
+// One part of singles, or up to four where escapes are many.
 fn pass_singles(octets: &[u8], i: usize, biased: u64, top: u64, left: usize, way: u64) -> Turn
     requires { ⌜ Top top × Between top biased × (i ≤ length (now octets)) × (0 < left) ⌝ }
     ensures { λ r. ⌜ Turned top (now (octets .entry)) biased i left (r .count) (r .biased) (r .next) ⌝ }
 {
-    let n = plain::part(left);
-    let s = validate::pass_few(octets, i, biased, top, n);
+    let mut s = State {
+        biased: biased,
+        next: i,
+    };
+    let mut k: usize = 0;
+    let mut again = true;
+    while again {
+        let at = s.next;
+        let n = plain::part(left - k);
+        s = validate::pass_few(octets, at, s.biased, top, n);
+        k += n;
+        again = go_on(s, i, k, left, octets.len());
+    }
     Turn {
         biased: s.biased,
         next: s.next,
-        count: n,
+        count: k,
         way: later(way),
     }
 }
@@ -92,10 +134,7 @@ pub fn pass_turn(octets: &[u8], i: usize, biased: u64, top: u64, left: usize, wa
             };
         }
     }
-    if 1 < way {
-        return pass_singles(octets, i, biased, top, left, way);
-    }
-    if mixed_fits(octets.len(), i, top, left) {
+    if may_mix(octets.len(), i, top, left, way) {
         let m = mixed::pass_mixed(octets, i, biased, top);
         if 0 < m.count {
             return Turn {
