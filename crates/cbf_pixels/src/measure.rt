@@ -192,7 +192,8 @@ fn typed_words(
     words: &mut [i32; 129],
 ) -> bool
     requires { ⌜ Typed lo hi last × (i + 129 ≤ length (now pixels)) × (length (now words) ≡ 129) ⌝ }
-    ensures { λ r. ⌜ (r ≡ true → EachWithin (now (pixels .entry)) i 129 lo hi × SameSteps (now (pixels .entry)) i 128 (now (words .exit))) ⌝ }
+    ensures { λ r. ⌜ (r ≡ true → EachWithin (now (pixels .entry)) i 129 lo hi
+        × SameSteps (now (pixels .entry)) i 128 (now (words .exit))) ⌝ }
     ensures { λ _. ⌜ length (now (words .exit)) ≡ 129 ⌝ }
 {
     let signed = lo < 0;
@@ -210,7 +211,8 @@ fn size_of_part(
     hi: i64,
     words: &mut [i32; 129],
 ) -> usize
-    requires { ⌜ Typed lo hi last × (k + n ≤ length (now pixels)) × (n ≤ 128) × (0 < k → last ≡ getD (now pixels) (k - 1) (pos 0)) × (length (now words) ≡ 129) ⌝ }
+    requires { ⌜ Typed lo hi last × (k + n ≤ length (now pixels)) × (n ≤ 128) × (0 < k
+        → last ≡ getD (now pixels) (k - 1) (pos 0)) × (length (now words) ≡ 129) ⌝ }
     ensures { λ r. ⌜ (r ≡ sizeWithin lo hi last (part (now (pixels .entry)) k n)) × (r ≤ 15 * n) ⌝ }
     ensures { λ _. ⌜ length (now (words .exit)) ≡ 129 ⌝ }
 {

@@ -246,7 +246,8 @@ pub struct Mixed {
 // Pixels from the octet i on, none where it is not known how far the octets lead.
 pub fn pass_mixed(octets: &[u8], i: usize, biased: u64, top: u64) -> Mixed
     requires { ⌜ Top top × Between top biased × (biasedLeast + 65535 ≤ top) × (1 ≤ i) × (i + 192 ≤ length (now octets)) ⌝ }
-    ensures { λ r. ⌜ (0 < r .count → (r .count ≤ 192) × Passed top (now (octets .entry)) biased i (r .count) (r .biased) (r .next)) ⌝ }
+    ensures { λ r. ⌜ (0 < r .count → (r .count ≤ 192)
+        × Passed top (now (octets .entry)) biased i (r .count) (r .biased) (r .next)) ⌝ }
 {
     let nothing = Mixed {
         biased: 0,

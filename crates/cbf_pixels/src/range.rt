@@ -30,7 +30,8 @@ fn place(z: i64, below: u64) -> u64
 // At least the place of each of the n pixels from k on.
 fn spread(pixels: &[i64], k: usize, n: usize, below: u64) -> u64
     requires { ⌜ k + n ≤ length (now pixels) ⌝ }
-    ensures { λ r. ⌜ ((j : ℕ) → j < n → ((bits 8 (getD (now (pixels .entry)) (k + j) (pos 0)) + below) % 2 ^ 64 ≤ r) × (mag (getD (now (pixels .entry)) (k + j) (pos 0)) < 2 ^ 63)) ⌝ }
+    ensures { λ r. ⌜ ((j : ℕ) → j < n → ((bits 8 (getD (now (pixels .entry)) (k + j) (pos 0)) + below) % 2 ^ 64 ≤ r)
+        × (mag (getD (now (pixels .entry)) (k + j) (pos 0)) < 2 ^ 63)) ⌝ }
 {
     let mut all: u64 = 0;
     let mut j: usize = 0;
@@ -45,7 +46,8 @@ fn spread(pixels: &[i64], k: usize, n: usize, below: u64) -> u64
 // The same for pixels that are not to be negative: below is 0.
 fn spread_up(pixels: &[i64], k: usize, n: usize) -> u64
     requires { ⌜ k + n ≤ length (now pixels) ⌝ }
-    ensures { λ r. ⌜ ((j : ℕ) → j < n → (bits 8 (getD (now (pixels .entry)) (k + j) (pos 0)) ≤ r) × (mag (getD (now (pixels .entry)) (k + j) (pos 0)) < 2 ^ 63)) ⌝ }
+    ensures { λ r. ⌜ ((j : ℕ) → j < n → (bits 8 (getD (now (pixels .entry)) (k + j) (pos 0)) ≤ r)
+        × (mag (getD (now (pixels .entry)) (k + j) (pos 0)) < 2 ^ 63)) ⌝ }
 {
     let mut all: u64 = 0;
     let mut j: usize = 0;
@@ -104,7 +106,8 @@ pub fn words_within(
     words: &mut [i32; 129],
 ) -> bool
     requires { ⌜ (k + 129 ≤ length (now pixels)) × (length (now words) ≡ 129) × (limit + raisedBy signed limit < 2 ^ 32) ⌝ }
-    ensures { λ r. ⌜ (r ≡ true → EachWithin (now (pixels .entry)) k 129 (lowest signed limit) (pos limit) × SameSteps (now (pixels .entry)) k 128 (now (words .exit))) ⌝ }
+    ensures { λ r. ⌜ (r ≡ true → EachWithin (now (pixels .entry)) k 129 (lowest signed limit) (pos limit)
+        × SameSteps (now (pixels .entry)) k 128 (now (words .exit))) ⌝ }
     ensures { λ _. ⌜ length (now (words .exit)) ≡ 129 ⌝ }
 {
     if signed {

@@ -53,7 +53,8 @@ pub fn put_15(out: &mut [u8], at: usize, n: u64)
 // take one.
 fn put_difference(out: &mut [u8], at: usize, d: i64) -> usize
     requires { ⌜ at + length (packDifference d) ≤ length (now out) ⌝ }
-    ensures { λ r. ⌜ (r ≡ at + length (packDifference d)) × (now (out .exit) ≡ sets (now (out .entry)) at (packDifference d)) ⌝ }
+    ensures { λ r. ⌜ (r ≡ at + length (packDifference d))
+        × (now (out .exit) ≡ sets (now (out .entry)) at (packDifference d)) ⌝ }
 {
     if measure::narrow(d, 128) {
         octets::put1(out, at, bits_of(d, 256));
@@ -170,7 +171,8 @@ fn write_part(
     used: usize,
     table: &[u64; 9],
 ) -> usize
-    requires { ⌜ (now table ≡ forms) × (n ≤ 128) × (k + n ≤ length (now pixels)) × Writable (now pixels) k (length (now pixels) - k) last (now out) at ⌝ }
+    requires { ⌜ (now table ≡ forms) × (n ≤ 128) × (k + n ≤ length (now pixels))
+        × Writable (now pixels) k (length (now pixels) - k) last (now out) at ⌝ }
     ensures { λ r. ⌜ WroteOver (now (pixels .entry)) k n last (now (out .entry)) at (now (out .exit)) r (length (now (pixels .entry)) - (k + n)) ⌝ }
 {
     let left = pixels.len() - k;
