@@ -9,6 +9,9 @@ const BLOCK: usize = 32;
 /// Octets or pixels that are looked at together, where some are not.
 const PART: usize = 128;
 
+/// Octets that are looked at together, where escapes stand apart from each other.
+const APART: usize = 192;
+
 const LENGTHS: [usize; 22] = [
     1, 2, 3, 4, 31, 32, 33, 95, 96, 97, 191, 192, 193, 223, 224, 225, 1_023, 1_024, 1_025, 4_095,
     4_096, 5_000,
@@ -315,6 +318,57 @@ fn jumps(kind: Kind, edges: &mut Edges) {
     }
 }
 
+/// How far from the pixel before them some pixel of octets with escapes is: a window of 32,768 numbers ends about there.
+const REACH: [i64; 10] = [
+    0, 1, 16_382, 16_383, 16_384, 16_385, 32_766, 32_767, -16_384, -16_385,
+];
+
+/// Octets with escapes that stand apart, the last of them about the end of those that are looked at together, from pixels
+/// at the distances from an end of the type at which a window or a sum is no longer enough. One pixel is at that end, one
+/// beyond it, or at the end of a window.
+fn apart(kind: Kind, edges: &mut Edges) {
+    let far = 32_768 * APART as i64;
+    let away = [0, 1, 16_383, 16_384, 32_767, 32_768, far - 1, far, far + 1];
+    for (end, out) in kind.ends() {
+        for start in away.map(|away| end - out * away) {
+            if !kind.has(start) {
+                continue;
+            }
+            for last in APART - 6..APART + 3 {
+                let reached = REACH.map(|reach| start + out * reach);
+                for goal in reached.into_iter().chain([end, end + out]) {
+                    one_apart(kind, start, last, goal, edges);
+                }
+            }
+        }
+    }
+}
+
+/// An escape each 5 to 24 octets and one at the octet `last`; one pixel is `goal`, if one can reach it.
+fn one_apart(kind: Kind, start: i64, last: usize, goal: i64, edges: &mut Edges) {
+    let mut made = Differences::at(start);
+    let first = made.octets.len();
+    let mut next = edges.random.below(3);
+    let place = edges.random.below(APART - 12);
+    let mut missing = true;
+    while made.octets.len() < first + APART + 40 {
+        let at = made.octets.len() - first;
+        let random = &mut edges.random;
+        let escape = at == last || (at >= next && (at + 3 <= last || at > last + 2));
+        let most = if escape { 32_767 } else { 100 };
+        let wish = kind.cut(start + between(-most, most, random));
+        let mut pixel = wish.clamp(made.last - most, made.last + most);
+        if missing && at >= place && escape && (goal - made.last).abs() <= most {
+            (pixel, missing) = (goal, false);
+        }
+        if escape {
+            next = at + 5 + random.below(20);
+        }
+        made.put(pixel, escape.into());
+    }
+    edges.unpack(kind, &made);
+}
+
 /// All the way by 127 from 0 to an end of the type, and one beyond it: the sum of so many differences passes 2^31.
 fn long_ramps(kind: Kind, edges: &mut Edges) {
     for (end, out) in kind.ends() {
@@ -343,6 +397,7 @@ pub fn all(kind: Kind, edges: &mut Edges) {
         mixed,
         one_outside,
         jumps,
+        apart,
         long_ramps,
     ] {
         group(kind, edges);
