@@ -12,7 +12,7 @@ const MORE_BAR: f64 = 2.0;
 const BASE64_BARS: [(&str, f64); 4] = [
     ("base64_detector", 50.6),
     ("base64_noise", 50.9),
-    ("base64_strong", 56.9),
+    ("base64_strong", 56.6),
     ("base64_u16", 30.9),
 ];
 
