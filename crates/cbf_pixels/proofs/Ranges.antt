@@ -36,9 +36,9 @@ unfolding within pick bits
 within-signed (pos n) limit l h = let g : n ≤ limit = omega arith in le-leb n limit g
 within-signed (negsuc n) limit l h = let g : n ≤ limit = omega arith in rw (le-leb n limit g)
 
-pub within-unsigned : (z : ℤ) (limit : ℕ) → limit < 2 ^ 62 → (bits 8 z ≤ limit) × (mag z < 2 ^ 63) → within (pos 0) (pos limit) z ≡ true
+pub within-unsigned : (z : ℤ) (limit : ℕ) → limit < 2 ^ 62 → ((bits 8 z + 0) % 2 ^ 64 ≤ limit) × (mag z < 2 ^ 63) → within (pos 0) (pos limit) z ≡ true
 unfolding within pick bits
-within-unsigned (pos n) limit l h = rw (le-leb 0 n (omega arith)) (le-leb n limit (h .0))
+within-unsigned (pos n) limit l h = let g : n ≤ limit = omega arith in rw (le-leb 0 n (omega arith)) (le-leb n limit g)
 within-unsigned (negsuc n) limit l h = let y : ⊥ = omega arith in absurd y
 
 -- ---- differences
@@ -337,7 +337,7 @@ pub record Limit (lo hi : ℤ) : Type 0 where
   pub own : leZ (pos (natAbs hi)) hi ≡ true
   pub small : natAbs hi + raisedBy (ltZ lo (pos 0)) (natAbs hi) < 2 ^ 32
 
-limit-is : (t : ElementType) → Limit (least t) (greatest t)
+pub limit-is : (t : ElementType) → Limit (least t) (greatest t)
 limit-is U8 = record { is = refl; own = refl; small = omega arith }
 limit-is S8 = record { is = refl; own = refl; small = omega arith }
 limit-is U16 = record { is = refl; own = refl; small = omega arith }

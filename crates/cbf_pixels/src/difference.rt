@@ -2,7 +2,7 @@
 use crate::octets;
 ghost use mathlib.Core.Path.{_≡_};
 ghost use mathlib.Core.Bool.{true, false};
-ghost use Prim.Native.Nat.{ℕ, _*_, _<_, _≤_, _^_};
+ghost use Prim.Native.Nat.{ℕ, _<_, _≤_, _^_};
 ghost use lib.ListN.{length, drop};
 ghost use Rattle.cbf_pixels.specs.Octets.{half as halfOf, signed};
 ghost use Rattle.cbf_pixels.specs.Pixels.{readBy, widths, run-out};

@@ -39,19 +39,6 @@ fn greatest_of(kind: ElementType) -> i64
     }
 }
 
-fn top_of(kind: ElementType) -> u64
-    ensures { λ r. ⌜ (pos r ≡ greatest kind) × (r < 2 ^ 62) ⌝ }
-{
-    match kind {
-        ElementType::U8 => 255,
-        ElementType::S8 => 127,
-        ElementType::U16 => 65535,
-        ElementType::S16 => 32767,
-        ElementType::U32 => 4294967295,
-        ElementType::S32 => 2147483647,
-    }
-}
-
 // Whether a width holds the difference d: half is half of the width's numbers.
 pub fn narrow(d: i64, half: u32) -> bool
     ensures { λ r. ⌜ r ≡ ltb (natAbs d) half ⌝ }
@@ -267,7 +254,7 @@ pub fn all_typed(kind: ElementType, pixels: &[i64]) -> bool
     ensures { λ r. ⌜ (r ≡ true → allWithin (least kind) (greatest kind) (now (pixels .entry)) ≡ true) ⌝ }
 {
     let signed = least_of(kind) < 0;
-    let top = top_of(kind);
+    let top = greatest_of(kind) as u64;
     let n = pixels.len();
     range::each_within(pixels, 0, n, signed, top)
 }

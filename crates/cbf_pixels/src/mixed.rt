@@ -162,13 +162,14 @@ fn levels(fours: &[u16; 208], pixels: &mut [u16; 208]) -> u16
     all
 }
 
-// What all octets add, each plus 32,768.
+// A number of 16 bits as a signed one, plus 32,768.
 fn raised(n: u16) -> u32
     ensures { λ r. ⌜ (r ≡ bitXor n 32768) × (r < 65536) ⌝ }
 {
     (n ^ 32768) as u32
 }
 
+// What all octets add, each plus 32,768.
 fn total(added: &[u16; 208]) -> u32
     ensures { λ r. ⌜ (r ≡ raisedTo (now (added .entry)) 192) × (r ≤ 65535 * 192) ⌝ }
 {

@@ -43,22 +43,6 @@ fn spread(pixels: &[i64], k: usize, n: usize, below: u64) -> u64
     all
 }
 
-// The same for pixels that are not to be negative: below is 0.
-fn spread_up(pixels: &[i64], k: usize, n: usize) -> u64
-    requires { ⌜ k + n ≤ length (now pixels) ⌝ }
-    ensures { λ r. ⌜ ((j : ℕ) → j < n → (bits 8 (getD (now (pixels .entry)) (k + j) (pos 0)) ≤ r)
-        × (mag (getD (now (pixels .entry)) (k + j) (pos 0)) < 2 ^ 63)) ⌝ }
-{
-    let mut all: u64 = 0;
-    let mut j: usize = 0;
-    while j < n {
-        let z = pixels[k + j];
-        all = all | bits_of_far(z);
-        j += 1;
-    }
-    all
-}
-
 // Whether each of the n pixels from k on is at most limit, and from 0 or from -1 - limit on: true only where it is so.
 pub fn each_within(pixels: &[i64], k: usize, n: usize, signed: bool, limit: u64) -> bool
     requires { ⌜ (k + n ≤ length (now pixels)) × (limit < 2 ^ 62) ⌝ }
@@ -68,7 +52,7 @@ pub fn each_within(pixels: &[i64], k: usize, n: usize, signed: bool, limit: u64)
         let below = limit + 1;
         return spread(pixels, k, n, below) <= limit + below;
     }
-    spread_up(pixels, k, n) <= limit
+    spread(pixels, k, n, 0) <= limit
 }
 
 // The low 32 bits of a number, moved down by 2^31.

@@ -7,7 +7,7 @@ ghost use mathlib.Core.Path.{_≡_};
 ghost use mathlib.Core.Bool.{true};
 ghost use Prim.Native.Nat.{_+_, _<_, _≤_};
 ghost use lib.ListN.{length};
-ghost use Rattle.cbf_pixels.specs.Steps.{biasedLeast, Top, Between, Passed, Turned};
+ghost use Rattle.cbf_pixels.specs.Steps.{biasedLeast, Top, Between, Turned};
 
 // Where a turn leads: the last biased pixel, 0 where pixels do not unpack, where the next difference starts, and how many
 // pixels it passed. The way of the next turn is a guess from what was met: 0, mixed octets are tried before a run; 1, after

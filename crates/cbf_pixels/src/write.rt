@@ -6,12 +6,11 @@ use crate::range;
 use crate::window;
 ghost use mathlib.Core.Path.{_≡_};
 ghost use Prim.Native.Nat.{ℕ, _+_, _-_, _%_, _<_, _≤_, _^_};
-ghost use mathlib.Core.Bool.{true};
-ghost use mathlib.Core.List.{_∷_, _++_};
-ghost use lib.ListN.{length, drop};
+ghost use mathlib.Core.List.{_++_};
+ghost use lib.ListN.{length};
 ghost use lib.Seq.{sets};
-ghost use lib.IntN.{pos, natAbs};
-ghost use Rattle.cbf_pixels.specs.Octets.{octets as octetsOf, bits, half as halfOf};
+ghost use lib.IntN.{natAbs};
+ghost use Rattle.cbf_pixels.specs.Octets.{octets as octetsOf, bits};
 ghost use Rattle.cbf_pixels.specs.Pixels.{packDifference, packFrom, packByteOffset};
 ghost use Rattle.cbf_pixels.specs.Steps.{Small, AllSmall, WindowRun, part, Writable, Wrote, WroteOver, forms};
 

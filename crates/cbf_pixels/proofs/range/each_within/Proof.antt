@@ -1,3 +1,4 @@
+-- `each_within` meets its contract. Assumes nothing.
 use Prim.Native.Nat.{ℕ, _+_}
 use native.Mathlib.Omega.{arith}
 use mathlib.Core.Path.{sym, subst}
@@ -11,15 +12,6 @@ use Rattle.cbf_pixels.proofs.Ranges.{within-signed, within-unsigned}
 use Rattle.cbf_pixels.proofs.range.each_within.Statement.{statement}
 use Rattle.cbf_pixels.proofs.range.each_within.Tie as tie
 
-add-below : tie.Need-add-below
-add-below c = search needs
-
-spread-requires : tie.Need-spread-requires
-spread-requires c κs = search needs
-
-add-result : tie.Need-add-result
-add-result c = search needs
-
 returns : tie.Need-returns
 returns c = λ e.
     let a = c .before .before .args in
@@ -28,17 +20,14 @@ returns c = λ e.
     (λ j l. let s = c .spread .ensures j l in within-signed (getD (a .pixels .now) (a .k + j) (pos 0)) (a .limit) (c .before .before .pre .1)
     (omega (arith, s .0), s .1))
 
-spread-up-requires : tie.Need-spread-up-requires
-spread-up-requires c κs = search needs
-
 returns-2 : tie.Need-returns-2
 returns-2 c = λ e.
     let a = c .before .before .args in
-    let h = leb-true (c .spread-up .result) (a .limit) e in
+    let h = leb-true (c .spread2 .result) (a .limit) e in
     subst (λ (b : Bool). EachWithin (a .pixels .now) (a .k) (a .n) (lowest b (a .limit)) (pos (a .limit))) (sym (c .before .if1 .left))
-    (λ j l. let s = c .spread-up .ensures j l in within-unsigned (getD (a .pixels .now) (a .k + j) (pos 0)) (a .limit) (c .before .before .pre .1)
+    (λ j l. let s = c .spread2 .ensures j l in within-unsigned (getD (a .pixels .now) (a .k + j) (pos 0)) (a .limit) (c .before .before .pre .1)
     (omega (arith, s .0), s .1))
 
 pub each-within-spec : {M : Type 1} → statement M
 each-within-spec =
-    tie.close (tie.spec add-below spread-requires add-result returns spread-up-requires returns-2)
+    tie.close (tie.spec (λ c. search needs) (λ c κs. search needs) (λ c. search needs) returns (λ c κs. search needs) returns-2)
