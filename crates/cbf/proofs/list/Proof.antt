@@ -13,15 +13,6 @@ use Rattle.cbf.proofs.list.Tie as tie
 lines-requires : tie.Need-lines-requires
 lines-requires c κs = λ e. let z : _≡_ {A = ℕ} 0 1 = cc in absurd (omega arith)
 
-enum-known-measured : tie.Need-enum-known-measured
-enum-known-measured c = search needs
-
-enum-known-measured-2 : tie.Need-enum-known-measured-2
-enum-known-measured-2 c = search needs
-
-same-length : tie.Need-same-length
-same-length c = search needs
-
 returns : tie.Need-returns
 returns c =
     let b = c .before .before in
@@ -38,9 +29,6 @@ lines-requires-2 c κs =
     let r = list-has-room (F.read (a .limit) (now (a .file))) (now (a .out)) (b .measured2 .given .0 .0) (sym (b .measured2 .given .1) ∙ m .lines .ensures .0) (omega (arith, ap length (m .lines .ensures .1))) in
     λ e. rw (m .lines .ensures .1) (r .0)
 
-same-length-2 : tie.Need-same-length-2
-same-length-2 c = search needs
-
 returns-2 : tie.Need-returns-2
 returns-2 c =
     let b = c .before in
@@ -48,9 +36,6 @@ returns-2 c =
     let a = m .before .before .before .before .args in
     let r = list-refused (F.read (a .limit) (now (a .file))) (now (a .out)) (b .measured .given .0 .0) (sym (b .measured .given .1) ∙ m .lines .ensures .0) in
     (r .0, m .lines .ensures .1 ∙ r .1)
-
-same-length-3 : tie.Need-same-length-3
-same-length-3 c = search needs
 
 returns-3 : tie.Need-returns-3
 returns-3 c =
@@ -65,13 +50,5 @@ pub list-spec : {M : Type 1} → statement M
 list-spec =
     tie.close
     (tie.spec
-    lines-requires
-    enum-known-measured
-    enum-known-measured-2
-    same-length
-    returns
-    lines-requires-2
-    same-length-2
-    returns-2
-    same-length-3
-    returns-3)
+    lines-requires (λ c. search needs) (λ c. search needs) (λ c. search needs) returns lines-requires-2
+    (λ c. search needs) returns-2 (λ c. search needs) returns-3)

@@ -9,21 +9,6 @@ use Rattle.cbf.proofs.OutcomeLaws.{shown-listing, shown-refusal}
 use Rattle.cbf.proofs.listing_or_refusal.Statement.{statement}
 use Rattle.cbf.proofs.listing_or_refusal.Tie as tie
 
-list-requires : tie.Need-list-requires
-list-requires c κs = search needs
-
-enum-known-answer : tie.Need-enum-known-answer
-enum-known-answer c = search needs
-
-enum-known-answer-2 : tie.Need-enum-known-answer-2
-enum-known-answer-2 c = search needs
-
-refusal-line-requires : tie.Need-refusal-line-requires
-refusal-line-requires c κs = search needs
-
-same-length : tie.Need-same-length
-same-length c = search needs
-
 returns : tie.Need-returns
 returns c =
     let b = c .before in
@@ -32,9 +17,6 @@ returns c =
     let e = sym (ap outcome (b .answer .given .1)) ∙ m .list .ensures .0 in
     let q = shown-listing (F.read (a .limit) (now (a .file))) (length (now (a .out))) (b .answer .given .0 .0) e in
     rw (q .0, ← (q .1)) (e, m .list .ensures .1)
-
-same-length-2 : tie.Need-same-length-2
-same-length-2 c = search needs
 
 returns-2 : tie.Need-returns-2
 returns-2 c =
@@ -51,11 +33,5 @@ pub listing-or-refusal-spec : {M : Type 1} → statement M
 listing-or-refusal-spec =
     tie.close
     (tie.spec
-    list-requires
-    enum-known-answer
-    enum-known-answer-2
-    refusal-line-requires
-    same-length
-    returns
-    same-length-2
-    returns-2)
+    (λ c κs. search needs) (λ c. search needs) (λ c. search needs) (λ c κs. search needs) (λ c. search needs)
+    returns (λ c. search needs) returns-2)

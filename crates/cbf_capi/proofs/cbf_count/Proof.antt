@@ -6,9 +6,6 @@ use Rattle.cbf_capi.proofs.Words.{count-halves}
 use Rattle.cbf_capi.proofs.cbf_count.Statement.{statement}
 use Rattle.cbf_capi.proofs.cbf_count.Tie as tie
 
-read-requires : tie.Need-read-requires
-read-requires c κs = search needs
-
 word-of-requires : tie.Need-word-of-requires
 word-of-requires c κs = rw (c .read .ensures) (count-halves (c .before .before .args .file .now) .fits)
 
@@ -16,4 +13,4 @@ returns : tie.Need-returns
 returns c = c .word-of .ensures ∙ ap word (c .before .read .ensures)
 
 pub cbf-count-spec : {M : Type 1} → statement M
-cbf-count-spec = tie.close (tie.spec read-requires word-of-requires returns)
+cbf-count-spec = tie.close (tie.spec (λ c κs. search needs) word-of-requires returns)

@@ -5,22 +5,10 @@ use Rattle.cbf_capi.proofs.Words.{place-halves, octets-say}
 use Rattle.cbf_capi.proofs.cbf_octets.Statement.{statement}
 use Rattle.cbf_capi.proofs.cbf_octets.Tie as tie
 
-octets-at-requires : tie.Need-octets-at-requires
-octets-at-requires c κs = search needs
-
-enum-known-place : tie.Need-enum-known-place
-enum-known-place c = search needs
-
 word-of-requires : tie.Need-word-of-requires
 word-of-requires c κs =
     let a = c .before .before .before .before .before .args in
     place-halves (a .file .now) (a .section) (sym (c .before .place .given .1) ∙ c .before .before .before .octets-at .ensures) .fits
-
-enum-known-place-2 : tie.Need-enum-known-place-2
-enum-known-place-2 c = search needs
-
-word-of-requires-2 : tie.Need-word-of-requires-2
-word-of-requires-2 c κs = search needs
 
 returns : tie.Need-returns
 returns c =
@@ -36,10 +24,5 @@ pub cbf-octets-spec : {M : Type 1} → statement M
 cbf-octets-spec =
     tie.close
     (tie.spec
-    octets-at-requires
-    enum-known-place
-    word-of-requires
-    enum-known-place-2
-    word-of-requires-2
-    returns
-    returns-2)
+    (λ c κs. search needs) (λ c. search needs) word-of-requires (λ c. search needs) (λ c κs. search needs)
+    returns returns-2)

@@ -7,21 +7,6 @@ use borrow.Author.Needs.{needs}
 use Rattle.cbf_capi.proofs.cbf_pack.Statement.{statement}
 use Rattle.cbf_capi.proofs.cbf_pack.Tie as tie
 
-element-of-requires : tie.Need-element-of-requires
-element-of-requires c κs = search needs
-
-enum-told : tie.Need-enum-told
-enum-told c = search needs
-
-refused-requires : tie.Need-refused-requires
-refused-requires c κs = search needs
-
-enum-known-known : tie.Need-enum-known-known
-enum-known-known c = search needs
-
-pack-requires : tie.Need-pack-requires
-pack-requires c κs = search needs
-
 word-of-requires : tie.Need-word-of-requires
 word-of-requires c κs = let a = c .before .before .before .before .before .before .before .before .before .args in rw (c .before .before .pack .ensures .0) (pack-halves _ (a .pixels .now) (length (a .out .now)) .fits)
 
@@ -30,9 +15,6 @@ unfolding PackSays
 returns c =
     let a = c .before .before .before .before .before .args in
     pack-unknown _ (a .pixels .now) (a .out .now) _ (c .refused .ensures) (sym (c .before .enum-told .given .1) ∙ c .before .before .before .element-of .ensures)
-
-same-length : tie.Need-same-length
-same-length c = search needs
 
 returns-2 : tie.Need-returns-2
 unfolding PackSays
@@ -45,12 +27,5 @@ pub cbf-pack-spec : {M : Type 1} → statement M
 cbf-pack-spec =
     tie.close
     (tie.spec
-    element-of-requires
-    enum-told
-    refused-requires
-    enum-known-known
-    pack-requires
-    word-of-requires
-    returns
-    same-length
-    returns-2)
+    (λ c κs. search needs) (λ c. search needs) (λ c κs. search needs) (λ c. search needs)
+    (λ c κs. search needs) word-of-requires returns (λ c. search needs) returns-2)

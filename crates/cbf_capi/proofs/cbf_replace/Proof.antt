@@ -7,17 +7,11 @@ use Rattle.cbf_capi.proofs.Words.{replace-halves}
 use Rattle.cbf_capi.proofs.cbf_replace.Statement.{statement}
 use Rattle.cbf_capi.proofs.cbf_replace.Tie as tie
 
-replace-requires : tie.Need-replace-requires
-replace-requires c κs = search needs
-
 word-of-requires : tie.Need-word-of-requires
 word-of-requires c κs = let a = c .before .before .before .before .before .before .args in rw (c .before .before .replace .ensures .0) (replace-halves (a .file .now) (a .section) (a .frame .now) (length (a .out .now)) .fits)
-
-same-length : tie.Need-same-length
-same-length c = search needs
 
 returns : tie.Need-returns
 returns c = let E = c .before .before .before .replace .ensures in (c .word-of .ensures ∙ ap word (E .0), E .1)
 
 pub cbf-replace-spec : {M : Type 1} → statement M
-cbf-replace-spec = tie.close (tie.spec replace-requires word-of-requires same-length returns)
+cbf-replace-spec = tie.close (tie.spec (λ c κs. search needs) word-of-requires (λ c. search needs) returns)

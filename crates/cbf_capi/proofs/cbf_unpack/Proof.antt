@@ -7,17 +7,11 @@ use Rattle.cbf_capi.proofs.Words.{frame-halves}
 use Rattle.cbf_capi.proofs.cbf_unpack.Statement.{statement}
 use Rattle.cbf_capi.proofs.cbf_unpack.Tie as tie
 
-unpack-requires : tie.Need-unpack-requires
-unpack-requires c κs = search needs
-
 word-of-requires : tie.Need-word-of-requires
 word-of-requires c κs = let a = c .before .before .before .before .args in rw (c .before .unpack .ensures .0) (frame-halves (a .file .now) (a .section) (length (a .pixels .now)) .fits)
-
-same-length : tie.Need-same-length
-same-length c = search needs
 
 returns : tie.Need-returns
 returns c = let E = c .before .before .unpack .ensures in (c .word-of .ensures ∙ ap word (E .0), E .1)
 
 pub cbf-unpack-spec : {M : Type 1} → statement M
-cbf-unpack-spec = tie.close (tie.spec unpack-requires word-of-requires same-length returns)
+cbf-unpack-spec = tie.close (tie.spec (λ c κs. search needs) word-of-requires (λ c. search needs) returns)

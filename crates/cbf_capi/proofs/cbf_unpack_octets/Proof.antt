@@ -7,33 +7,6 @@ use borrow.Author.Needs.{needs}
 use Rattle.cbf_capi.proofs.cbf_unpack_octets.Statement.{statement}
 use Rattle.cbf_capi.proofs.cbf_unpack_octets.Tie as tie
 
-element-of-requires : tie.Need-element-of-requires
-element-of-requires c κs = search needs
-
-compression-of-requires : tie.Need-compression-of-requires
-compression-of-requires c κs = search needs
-
-enum-told : tie.Need-enum-told
-enum-told c = search needs
-
-refused-requires : tie.Need-refused-requires
-refused-requires c κs = search needs
-
-enum-known-known : tie.Need-enum-known-known
-enum-known-known c = search needs
-
-enum-told-2 : tie.Need-enum-told-2
-enum-told-2 c = search needs
-
-refused-requires-2 : tie.Need-refused-requires-2
-refused-requires-2 c κs = search needs
-
-enum-known-compressed-by : tie.Need-enum-known-compressed-by
-enum-known-compressed-by c = search needs
-
-unpack-requires : tie.Need-unpack-requires
-unpack-requires c κs = search needs
-
 word-of-requires : tie.Need-word-of-requires
 word-of-requires c κs = let a = c .before .before .before .before .before .before .before .before .before .before .before .before .args in rw (c .before .unpack .ensures .0) (unpack-halves _ _ (a .count) (a .octets .now) (length (a .pixels .now)) .fits)
 
@@ -49,9 +22,6 @@ returns-2 c =
     let a = c .before .before .before .before .before .before .before .before .before .args in
     unpack-no-compression _ _ (a .count) (a .octets .now) (a .pixels .now) _ (c .refused2 .ensures) _ (sym (c .before .before .before .before .known .given .1) ∙ c .before .before .before .before .before .before .before .element-of .ensures) (sym (c .before .enum-told2 .given .1) ∙ c .before .before .before .before .before .before .compression-of .ensures)
 
-same-length : tie.Need-same-length
-same-length c = search needs
-
 returns-3 : tie.Need-returns-3
 unfolding UnpackSays
 returns-3 c =
@@ -63,17 +33,6 @@ pub cbf-unpack-octets-spec : {M : Type 1} → statement M
 cbf-unpack-octets-spec =
     tie.close
     (tie.spec
-    element-of-requires
-    compression-of-requires
-    enum-told
-    refused-requires
-    enum-known-known
-    enum-told-2
-    refused-requires-2
-    enum-known-compressed-by
-    unpack-requires
-    word-of-requires
-    returns
-    returns-2
-    same-length
-    returns-3)
+    (λ c κs. search needs) (λ c κs. search needs) (λ c. search needs) (λ c κs. search needs)
+    (λ c. search needs) (λ c. search needs) (λ c κs. search needs) (λ c. search needs) (λ c κs. search needs)
+    word-of-requires returns returns-2 (λ c. search needs) returns-3)

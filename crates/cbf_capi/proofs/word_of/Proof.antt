@@ -8,23 +8,8 @@ use borrow.Author.Needs.{needs}
 use Rattle.cbf_capi.proofs.word_of.Statement.{statement}
 use Rattle.cbf_capi.proofs.word_of.Tie as tie
 
-enum-known-answer : tie.Need-enum-known-answer
-enum-known-answer c = search needs
-
-enum-known-answer-2 : tie.Need-enum-known-answer-2
-enum-known-answer-2 c = search needs
-
-cast-result : tie.Need-cast-result
-cast-result c = search needs
-
-mul-result : tie.Need-mul-result
-mul-result c = search needs
-
 add-result : tie.Need-add-result
 add-result c = record { fits = subst (λ (a : Answer). word (outcome a) < 2 ^ 64) (c .before .before .answer2 .given .1) (c .before .before .before .before .pre) }
-
-returns : tie.Need-returns
-returns c = search needs
 
 returns-2 : tie.Need-returns-2
 returns-2 c = ap (λ (a : Answer). word (outcome a)) (sym (c .before .before .answer2 .given .1))
@@ -33,10 +18,5 @@ pub word-of-spec : {M : Type 1} → statement M
 word-of-spec =
     tie.close
     (tie.spec
-    enum-known-answer
-    enum-known-answer-2
-    cast-result
-    mul-result
-    add-result
-    returns
-    returns-2)
+    (λ c. search needs) (λ c. search needs) (λ c. search needs) (λ c. search needs) add-result
+    (λ c. search needs) returns-2)

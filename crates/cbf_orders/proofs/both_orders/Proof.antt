@@ -5,24 +5,6 @@ use Rattle.cbf_orders.proofs.OrderLaws.{two-orders}
 use Rattle.cbf_orders.proofs.both_orders.Statement.{statement}
 use Rattle.cbf_orders.proofs.both_orders.Tie as tie
 
-one-order-requires : tie.Need-one-order-requires
-one-order-requires c κs = search needs
-
-one-order-requires-2 : tie.Need-one-order-requires-2
-one-order-requires-2 c κs = search needs
-
-same-length : tie.Need-same-length
-same-length c = search needs
-
-same-length-2 : tie.Need-same-length-2
-same-length-2 c = search needs
-
-same-length-3 : tie.Need-same-length-3
-same-length-3 c = search needs
-
-same-length-4 : tie.Need-same-length-4
-same-length-4 c = search needs
-
 returns : tie.Need-returns
 returns c =
     let t = c .before .before .before .before in
@@ -35,10 +17,5 @@ pub both-orders-spec : {M : Type 1} → statement M
 both-orders-spec =
     tie.close
     (tie.spec
-    one-order-requires
-    one-order-requires-2
-    same-length
-    same-length-2
-    same-length-3
-    same-length-4
-    returns)
+    (λ c κs. search needs) (λ c κs. search needs) (λ c. search needs) (λ c. search needs) (λ c. search needs)
+    (λ c. search needs) returns)

@@ -9,15 +9,6 @@ use Rattle.cbf_orders.proofs.OrderLaws.{Given, given-file, order-refuse
 use Rattle.cbf_orders.proofs.one_order.Statement.{statement}
 use Rattle.cbf_orders.proofs.one_order.Tie as tie
 
-replace-requires : tie.Need-replace-requires
-replace-requires c κs = search needs
-
-enum-known-first : tie.Need-enum-known-first
-enum-known-first c = search needs
-
-enum-known-first-2 : tie.Need-enum-known-first-2
-enum-known-first-2 c = search needs
-
 abbrev start : tie.After-replace → tie.Start
 start m = m .before .before .before .before .before
 
@@ -37,12 +28,6 @@ slice-reshare-prefix-replace c = given (c .before) .fits
 slice-aggregate-replace : tie.Need-slice-aggregate-replace
 slice-aggregate-replace c = let b = c .before .before in sym (length-take-le (b .first2 .given .0 .0) _ (given b .fits))
 
-replace-requires-2 : tie.Need-replace-requires-2
-replace-requires-2 c κs = search needs
-
-same-length : tie.Need-same-length
-same-length c = search needs
-
 returns : tie.Need-returns
 returns c =
     let m = c .before .before .before .before .before in
@@ -50,12 +35,6 @@ returns c =
     let t = c .before .first .given .0 .0 in
     order-refused (now (a .file)) (a .i) (now (a .f)) (a .j) (now (a .g)) (now (a .oi)) (now (a .oij)) (m .replace .ensures .1) (t .number) (t .place)
     (sym (ap outcome (c .before .first .given .1)) ∙ m .replace .ensures .0)
-
-same-length-2 : tie.Need-same-length-2
-same-length-2 c = search needs
-
-same-length-3 : tie.Need-same-length-3
-same-length-3 c = search needs
 
 returns-2 : tie.Need-returns-2
 returns-2 c =
@@ -72,14 +51,6 @@ pub one-order-spec : {M : Type 1} → statement M
 one-order-spec =
     tie.close
     (tie.spec
-    replace-requires
-    enum-known-first
-    enum-known-first-2
-    slice-reshare-prefix-replace
-    slice-aggregate-replace
-    replace-requires-2
-    same-length
-    returns
-    same-length-2
-    same-length-3
-    returns-2)
+    (λ c κs. search needs) (λ c. search needs) (λ c. search needs) slice-reshare-prefix-replace
+    slice-aggregate-replace (λ c κs. search needs) (λ c. search needs) returns (λ c. search needs)
+    (λ c. search needs) returns-2)

@@ -4,21 +4,6 @@ use borrow.Author.Needs.{needs}
 use Rattle.cbf_pixels.proofs.pack_counted.Statement.{statement}
 use Rattle.cbf_pixels.proofs.pack_counted.Tie as tie
 
-octet-count-requires : tie.Need-octet-count-requires
-octet-count-requires c κs = search needs
-
-enum-told : tie.Need-enum-told
-enum-told c = search needs
-
-refused-requires : tie.Need-refused-requires
-refused-requires c κs = search needs
-
-enum-known-size : tie.Need-enum-known-size
-enum-known-size c = search needs
-
-refused-requires-2 : tie.Need-refused-requires-2
-refused-requires-2 c κs = search needs
-
 returns : tie.Need-returns
 unfolding Packed
 returns c =
@@ -26,9 +11,6 @@ returns c =
     let u = pack-large (s .args .kind) (s .args .pixels .now) (s .args .out .now) _ (s .pre)
     (sym (c .before .before .before .size .given .1) ∙ c .before .before .before .before .before .octet-count .ensures) (c .before .if1 .taken) in
     (c .refused2 .ensures ∙ u .0, u .1)
-
-refused-requires-3 : tie.Need-refused-requires-3
-refused-requires-3 c κs = search needs
 
 returns-2 : tie.Need-returns-2
 unfolding Packed
@@ -54,9 +36,6 @@ returns-3 c =
     (sym (c .before .enum-told .given .1) ∙ c .before .before .before .octet-count .ensures) in
     (c .refused .ensures ∙ u .0, u .1)
 
-same-length : tie.Need-same-length
-same-length c = search needs
-
 returns-4 : tie.Need-returns-4
 unfolding Packed
 returns-4 c =
@@ -71,15 +50,6 @@ pub pack-counted-spec : {M : Type 1} → statement M
 pack-counted-spec =
     tie.close
     (tie.spec
-    octet-count-requires
-    enum-told
-    refused-requires
-    enum-known-size
-    refused-requires-2
-    returns
-    refused-requires-3
-    returns-2
-    write-octets-requires
-    returns-3
-    same-length
-    returns-4)
+    (λ c κs. search needs) (λ c. search needs) (λ c κs. search needs) (λ c. search needs)
+    (λ c κs. search needs) returns (λ c κs. search needs) returns-2 write-octets-requires returns-3
+    (λ c. search needs) returns-4)

@@ -10,21 +10,12 @@ use borrow.Author.Needs.{needs}
 use Rattle.cbf_pixels.proofs.unpack_byte_offset.Statement.{statement}
 use Rattle.cbf_pixels.proofs.unpack_byte_offset.Tie as tie
 
-validate-requires : tie.Need-validate-requires
-validate-requires c κs = search needs
-
-refused-requires : tie.Need-refused-requires
-refused-requires c κs = search needs
-
 returns : tie.Need-returns
 unfolding Unpacked unpackPixels
 returns c =
     let a = c .before .before .before .before .args in
     let u = unpack-bad ByteOffset (a .kind) (a .count) (a .octets .now) (a .out .now) (c .before .before .before .before .pre) (sym (c .before .before .validate .ensures) ∙ not-true _ (c .before .if1 .taken)) in
     (c .refused .ensures ∙ u .0, u .1)
-
-refused-requires-2 : tie.Need-refused-requires-2
-refused-requires-2 c κs = search needs
 
 returns-2 : tie.Need-returns-2
 unfolding Unpacked unpackPixels
@@ -36,9 +27,6 @@ returns-2 c =
 fill-requires : tie.Need-fill-requires
 fill-requires c κs = (sym (c .before .before .before .validate .ensures) ∙ not-false _ (c .before .before .if1 .left), c .before .if2 .left)
 
-same-length : tie.Need-same-length
-same-length c = search needs
-
 returns-3 : tie.Need-returns-3
 unfolding Unpacked unpackPixels
 returns-3 c =
@@ -49,11 +37,5 @@ pub unpack-byte-offset-spec : {M : Type 1} → statement M
 unpack-byte-offset-spec =
     tie.close
     (tie.spec
-    validate-requires
-    refused-requires
-    returns
-    refused-requires-2
-    returns-2
-    fill-requires
-    same-length
-    returns-3)
+    (λ c κs. search needs) (λ c κs. search needs) returns (λ c κs. search needs) returns-2 fill-requires
+    (λ c. search needs) returns-3)

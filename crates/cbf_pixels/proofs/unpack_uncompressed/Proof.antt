@@ -10,14 +10,8 @@ use borrow.Author.Needs.{needs}
 use Rattle.cbf_pixels.proofs.unpack_uncompressed.Statement.{statement}
 use Rattle.cbf_pixels.proofs.unpack_uncompressed.Tie as tie
 
-octets-per-requires : tie.Need-octets-per-requires
-octets-per-requires c κs = search needs
-
 mul-size : tie.Need-mul-size
 mul-size c = record { fits = omega (arith, mul-le-mul-right (c .before .before .args .count) (c .octets-per .ensures .1)) }
-
-refused-requires : tie.Need-refused-requires
-refused-requires c κs = search needs
 
 returns : tie.Need-returns
 unfolding Unpacked unpackPixels
@@ -25,9 +19,6 @@ returns c =
     let a = c .before .before .before .before .args in
     let u = unpack-bad Uncompressed (a .kind) (a .count) (a .octets .now) (a .out .now) (c .before .before .before .before .pre) (uncompressed-none (a .kind) (a .count) _ (a .octets .now) (c .before .before .octets-per .ensures .0) (c .before .if1 .taken)) in
     (c .refused .ensures ∙ u .0, u .1)
-
-refused-requires-2 : tie.Need-refused-requires-2
-refused-requires-2 c κs = search needs
 
 returns-2 : tie.Need-returns-2
 unfolding Unpacked unpackPixels
@@ -39,9 +30,6 @@ returns-2 c =
 fill-requires : tie.Need-fill-requires
 fill-requires c κs = (c .before .before .if1 .left ∙ ap (λ (k : ℕ). k * c .before .before .before .before .before .args .count) (c .before .before .before .octets-per .ensures .0), c .before .if2 .left)
 
-same-length : tie.Need-same-length
-same-length c = search needs
-
 returns-3 : tie.Need-returns-3
 unfolding Unpacked unpackPixels
 returns-3 c =
@@ -52,12 +40,5 @@ pub unpack-uncompressed-spec : {M : Type 1} → statement M
 unpack-uncompressed-spec =
     tie.close
     (tie.spec
-    octets-per-requires
-    mul-size
-    refused-requires
-    returns
-    refused-requires-2
-    returns-2
-    fill-requires
-    same-length
-    returns-3)
+    (λ c κs. search needs) mul-size (λ c κs. search needs) returns (λ c κs. search needs) returns-2
+    fill-requires (λ c. search needs) returns-3)

@@ -6,15 +6,6 @@ use Rattle.cbf_reader.specs.WalkPlaces.{StartSays}
 use Rattle.cbf.proofs.entries.entries.Statement.{statement}
 use Rattle.cbf.proofs.entries.entries.Tie as tie
 
-begin-requires : tie.Need-begin-requires
-begin-requires c κs = search needs
-
-enum-known-started : tie.Need-enum-known-started
-enum-known-started c = search needs
-
-enum-known-started-2 : tie.Need-enum-known-started-2
-enum-known-started-2 c = search needs
-
 entries-from-requires : tie.Need-entries-from-requires
 entries-from-requires c κs =
     let s = c .before .before .before .before .before .before .before in
@@ -29,9 +20,6 @@ returns c =
     let says = subst (StartSays (a .limit) (now (a .file))) (c .before .started .given .1) (c .before .before .before .begin .ensures (a .limit)) in
     rw says (refl, refl)
 
-same-length : tie.Need-same-length
-same-length c = search needs
-
 returns-2 : tie.Need-returns-2
 returns-2 c =
     let m = c .before .before in
@@ -44,10 +32,5 @@ pub entries-spec : {M : Type 1} → statement M
 entries-spec =
     tie.close
     (tie.spec
-    begin-requires
-    enum-known-started
-    enum-known-started-2
-    entries-from-requires
-    returns
-    same-length
-    returns-2)
+    (λ c κs. search needs) (λ c. search needs) (λ c. search needs) entries-from-requires returns
+    (λ c. search needs) returns-2)

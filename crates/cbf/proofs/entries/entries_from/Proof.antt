@@ -21,12 +21,6 @@ loop-holds c =
     let p = c .before .before .pre in
     entered-start (a .limit) (now (a .file)) (now (a .out)) (a .writing) (a .c) (p .0) (p .2)
 
-next-section-requires : tie.Need-next-section-requires Inv-loop μ-loop
-next-section-requires c κs = search needs
-
-enum-known-next : tie.Need-enum-known-next Inv-loop μ-loop
-enum-known-next c = search needs
-
 same-length : tie.Need-same-length Inv-loop μ-loop
 same-length c = entered-kept (c .before .before .before .before .before .before .loop .inv)
 
@@ -34,21 +28,12 @@ returns : tie.Need-returns Inv-loop μ-loop
 returns c =
     entered-refused (c .before .before .before .before .before .before .loop .inv) (c .before .before .before .next-section .ensures) (c .before .before .before .before .before .before .before .before .before .pre .3) (c .before .next .given .1)
 
-enum-told : tie.Need-enum-told Inv-loop μ-loop
-enum-told c = search needs
-
-finished-requires : tie.Need-finished-requires Inv-loop μ-loop
-finished-requires c κs = search needs
-
 same-length-2 : tie.Need-same-length-2 Inv-loop μ-loop
 same-length-2 c = entered-kept (c .before .before .before .before .before .before .loop .inv)
 
 returns-2 : tie.Need-returns-2 Inv-loop μ-loop
 returns-2 c =
     entered-end (c .before .before .before .before .before .before .loop .inv) (c .before .before .before .next-section .ensures) (c .finished .ensures) (c .before .enum-told .given .1)
-
-enum-known-next-2 : tie.Need-enum-known-next-2 Inv-loop μ-loop
-enum-known-next-2 c = search needs
 
 mul-put-entry : tie.Need-mul-put-entry Inv-loop μ-loop
 mul-put-entry c = omega (arith, c .before .before .before .before .before .before .before .before .before .before .loop .inv .here .come .ready .few)
@@ -86,9 +71,6 @@ loop-again-2 c =
     let t = c .before .before .before .before in
     entered-counted (t .before .before .before .before .before .loop .inv) (t .before .before .next-section .ensures) (t .next2 .given .1) (c .before .if2 .left) (c .with-name .ensures)
 
-finished-requires-2 : tie.Need-finished-requires-2 Inv-loop μ-loop
-finished-requires-2 c κs = search needs
-
 same-length-3 : tie.Need-same-length-3 Inv-loop μ-loop
 same-length-3 c = entered-kept (c .before .before .before .loop .inv)
 
@@ -99,26 +81,7 @@ pub entries-from-spec : {M : Type 1} → statement M
 entries-from-spec =
     tie.close
     (tie.spec
-    Inv-loop
-    μ-loop
-    loop-holds
-    next-section-requires
-    enum-known-next
-    same-length
-    returns
-    enum-told
-    finished-requires
-    same-length-2
-    returns-2
-    enum-known-next-2
-    mul-put-entry
-    add-put-entry
-    put-entry-requires
-    with-name-requires
-    loop-less
-    loop-again
-    loop-less-2
-    loop-again-2
-    finished-requires-2
-    same-length-3
-    returns-3)
+    Inv-loop μ-loop loop-holds (λ c κs. search needs) (λ c. search needs) same-length returns
+    (λ c. search needs) (λ c κs. search needs) same-length-2 returns-2 (λ c. search needs) mul-put-entry
+    add-put-entry put-entry-requires with-name-requires loop-less loop-again loop-less-2 loop-again-2
+    (λ c κs. search needs) same-length-3 returns-3)

@@ -6,9 +6,6 @@ use Rattle.cbf_format.specs.Catalogue.{labelWidth}
 use Rattle.cbf.proofs.entries.with_name.Statement.{statement}
 use Rattle.cbf.proofs.entries.with_name.Tie as tie
 
-sub-if1 : tie.Need-sub-if1
-sub-if1 c = search needs
-
 returns : tie.Need-returns
 returns c = let a = c .before .before .args in rw (le-leb (a .block .to - a .block .from) labelWidth (c .if1 .taken))
 
@@ -23,4 +20,4 @@ returns-3 c =
     rw (lt-leb (a .block .to - a .block .from) labelWidth (c .before .if1 .left), le-ltb (a .found) (a .from) (c .if2 .left))
 
 pub with-name-spec : {M : Type 1} → statement M
-with-name-spec = tie.close (tie.spec sub-if1 returns returns-2 returns-3)
+with-name-spec = tie.close (tie.spec (λ c. search needs) returns returns-2 returns-3)

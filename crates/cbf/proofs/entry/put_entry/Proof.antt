@@ -8,21 +8,6 @@ use Rattle.cbf.proofs.EntryLaws.{both-written, length-four, entry-piece
 use Rattle.cbf.proofs.entry.put_entry.Statement.{statement}
 use Rattle.cbf.proofs.entry.put_entry.Tie as tie
 
-kinds-requires : tie.Need-kinds-requires
-kinds-requires c κs = search needs
-
-put-four-requires : tie.Need-put-four-requires
-put-four-requires c κs = search needs
-
-put-four-requires-2 : tie.Need-put-four-requires-2
-put-four-requires-2 c κs = search needs
-
-put-label-requires : tie.Need-put-label-requires
-put-label-requires c κs = search needs
-
-same-length : tie.Need-same-length
-same-length c = search needs
-
 returns : tie.Need-returns
 returns c =
     let a = c .before .before .before .before .before .before .before .before .before .before .before .before .before .before .before .before .before .args in
@@ -42,9 +27,5 @@ pub put-entry-spec : {M : Type 1} → statement M
 put-entry-spec =
     tie.close
     (tie.spec
-    kinds-requires
-    put-four-requires
-    put-four-requires-2
-    put-label-requires
-    same-length
-    returns)
+    (λ c κs. search needs) (λ c κs. search needs) (λ c κs. search needs) (λ c κs. search needs)
+    (λ c. search needs) returns)

@@ -7,21 +7,6 @@ use Rattle.cbf.proofs.EntryLaws.{both-written}
 use Rattle.cbf.proofs.entry.put_four.Statement.{statement}
 use Rattle.cbf.proofs.entry.put_four.Tie as tie
 
-put-little-requires : tie.Need-put-little-requires
-put-little-requires c κs = search needs
-
-put-little-requires-2 : tie.Need-put-little-requires-2
-put-little-requires-2 c κs = search needs
-
-put-little-requires-3 : tie.Need-put-little-requires-3
-put-little-requires-3 c κs = search needs
-
-put-little-requires-4 : tie.Need-put-little-requires-4
-put-little-requires-4 c κs = search needs
-
-same-length : tie.Need-same-length
-same-length c = search needs
-
 returns : tie.Need-returns
 returns c =
     let s = c .before .before .before .before .before .before .before .before .before .before .before .before .before .before .before .before .before .args in
@@ -36,9 +21,5 @@ pub put-four-spec : {M : Type 1} → statement M
 put-four-spec =
     tie.close
     (tie.spec
-    put-little-requires
-    put-little-requires-2
-    put-little-requires-3
-    put-little-requires-4
-    same-length
-    returns)
+    (λ c κs. search needs) (λ c κs. search needs) (λ c κs. search needs) (λ c κs. search needs)
+    (λ c. search needs) returns)

@@ -13,24 +13,6 @@ use Rattle.cbf.proofs.EntryLaws.{label-over}
 use Rattle.cbf.proofs.entry.put_label.Statement.{statement}
 use Rattle.cbf.proofs.entry.put_label.Tie as tie
 
-put-zeros-requires : tie.Need-put-zeros-requires
-put-zeros-requires c κs = search needs
-
-sub-put-short : tie.Need-sub-put-short
-sub-put-short c = search needs
-
-part-put-short-start : tie.Need-part-put-short-start
-part-put-short-start c = search needs
-
-part-put-short-end : tie.Need-part-put-short-end
-part-put-short-end c = search needs
-
-put-short-requires : tie.Need-put-short-requires
-put-short-requires c κs = search needs
-
-same-length : tie.Need-same-length
-same-length c = search needs
-
 returns : tie.Need-returns
 returns c =
     let z = c .before .before .before .before .before .before .before in
@@ -50,10 +32,5 @@ pub put-label-spec : {M : Type 1} → statement M
 put-label-spec =
     tie.close
     (tie.spec
-    put-zeros-requires
-    sub-put-short
-    part-put-short-start
-    part-put-short-end
-    put-short-requires
-    same-length
-    returns)
+    (λ c κs. search needs) (λ c. search needs) (λ c. search needs) (λ c. search needs) (λ c κs. search needs)
+    (λ c. search needs) returns)

@@ -7,15 +7,6 @@ use Rattle.cbf.proofs.OutcomeLaws.{refused-lines}
 use Rattle.cbf.proofs.lines.lines.Statement.{statement}
 use Rattle.cbf.proofs.lines.lines.Tie as tie
 
-begin-requires : tie.Need-begin-requires
-begin-requires c κs = search needs
-
-enum-known-started : tie.Need-enum-known-started
-enum-known-started c = search needs
-
-enum-known-started-2 : tie.Need-enum-known-started-2
-enum-known-started-2 c = search needs
-
 lines-from-requires : tie.Need-lines-from-requires
 lines-from-requires c κs =
     let s = c .before .before .before .before .before .before .before in
@@ -30,9 +21,6 @@ returns c =
     let says = subst (StartSays (a .limit) (now (a .file))) (c .before .started .given .1) (c .before .before .before .begin .ensures (a .limit)) in
     rw says (refused-lines (a .writing) (now (a .out)) (c .before .started .given .0 .0) (rw says at (s .pre)))
 
-same-length : tie.Need-same-length
-same-length c = search needs
-
 returns-2 : tie.Need-returns-2
 returns-2 c =
     let m = c .before .before in
@@ -45,10 +33,5 @@ pub lines-spec : {M : Type 1} → statement M
 lines-spec =
     tie.close
     (tie.spec
-    begin-requires
-    enum-known-started
-    enum-known-started-2
-    lines-from-requires
-    returns
-    same-length
-    returns-2)
+    (λ c κs. search needs) (λ c. search needs) (λ c. search needs) lines-from-requires returns
+    (λ c. search needs) returns-2)

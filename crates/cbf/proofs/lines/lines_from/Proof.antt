@@ -21,12 +21,6 @@ loop-holds c =
     let p = c .before .before .pre in
     listed-start (a .limit) (now (a .file)) (now (a .out)) (a .writing) (a .c) (p .0) (p .2)
 
-next-section-requires : tie.Need-next-section-requires Inv-loop μ-loop
-next-section-requires c κs = search needs
-
-enum-known-next : tie.Need-enum-known-next Inv-loop μ-loop
-enum-known-next c = search needs
-
 same-length : tie.Need-same-length Inv-loop μ-loop
 same-length c = listed-kept (c .before .before .before .before .before .before .loop .inv)
 
@@ -35,17 +29,11 @@ returns c =
     let p = c .before .before .before .before .before .before .before .before .before .pre in
     listed-refused (c .before .before .before .before .before .before .loop .inv) (c .before .before .before .next-section .ensures) (p .3) (c .before .next .given .1)
 
-enum-told : tie.Need-enum-told Inv-loop μ-loop
-enum-told c = search needs
-
 same-length-2 : tie.Need-same-length-2 Inv-loop μ-loop
 same-length-2 c = listed-kept (c .before .before .before .before .before .loop .inv)
 
 returns-2 : tie.Need-returns-2 Inv-loop μ-loop
 returns-2 c = listed-end (c .before .before .before .before .before .loop .inv) (c .before .before .next-section .ensures) (c .enum-told .given .1)
-
-enum-known-next-2 : tie.Need-enum-known-next-2 Inv-loop μ-loop
-enum-known-next-2 c = search needs
 
 put-line-requires : tie.Need-put-line-requires Inv-loop μ-loop
 put-line-requires c κs =
@@ -99,23 +87,6 @@ pub lines-from-spec : {M : Type 1} → statement M
 lines-from-spec =
     tie.close
     (tie.spec
-    Inv-loop
-    μ-loop
-    loop-holds
-    next-section-requires
-    enum-known-next
-    same-length
-    returns
-    enum-told
-    same-length-2
-    returns-2
-    enum-known-next-2
-    put-line-requires
-    line-length-requires
-    add-at
-    loop-less
-    loop-again
-    loop-less-2
-    loop-again-2
-    same-length-3
-    returns-3)
+    Inv-loop μ-loop loop-holds (λ c κs. search needs) (λ c. search needs) same-length returns
+    (λ c. search needs) same-length-2 returns-2 (λ c. search needs) put-line-requires line-length-requires
+    add-at loop-less loop-again loop-less-2 loop-again-2 same-length-3 returns-3)

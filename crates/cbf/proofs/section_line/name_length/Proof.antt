@@ -10,12 +10,6 @@ use Rattle.cbf.proofs.section_line.name_length.Tie as tie
 returns : tie.Need-returns
 returns c = (λ file h. rw (name-empty file _ _ (c .if1 .taken)) refl, omega arith)
 
-sub-result : tie.Need-sub-result
-sub-result c = search needs
-
-add-result : tie.Need-add-result
-add-result c = search needs
-
 returns-2 : tie.Need-returns-2
 returns-2 c =
     let s = c .before in
@@ -23,4 +17,4 @@ returns-2 c =
     (λ file k. name-length file (s .args .from) (s .args .to) h k, omega arith)
 
 pub name-length-spec : {M : Type 1} → statement M
-name-length-spec = tie.close (tie.spec returns sub-result add-result returns-2)
+name-length-spec = tie.close (tie.spec returns (λ c. search needs) (λ c. search needs) returns-2)

@@ -7,11 +7,9 @@ pub put-compression-spec : {M : Type 1} → statement M
 put-compression-spec =
     tie.close
     (tie.spec
-    (λ c. search needs)
-    (λ c. search needs)
+    (λ c. search needs) (λ c. search needs)
     (λ c κs. rw (c .before .before .enum-told .given .1) at (c .before .before .before .before .before .pre))
-    (λ c. search needs)
-    (λ c. search needs)
+    (λ c. search needs) (λ c. search needs)
     (λ c κs. rw (c .before .before .enum-told2 .given .1) at (c .before .before .before .before .before .pre))
     (λ c. search needs)
     (λ c. rw (c .before .before .before .before .before .enum-told .given .1) (c .before .before .put-text .ensures))

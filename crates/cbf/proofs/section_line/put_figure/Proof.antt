@@ -12,16 +12,10 @@ put-number-requires c κs =
     let s = c .before .before in
     first-fits (s .args .at) (printed (s .args .n)) (32 ∷ []) (s .pre)
 
-slice-aggregate-put-text : tie.Need-slice-aggregate-put-text
-slice-aggregate-put-text c = search needs
-
 put-text-requires : tie.Need-put-text-requires
 put-text-requires c κs =
     let s = c .before .before .before .before .before .before .before in
     rest-fits (s .args .out .now) (s .args .at) (printed (s .args .n)) (32 ∷ []) (s .pre) (c .before .before .before .before .put-number .ensures)
-
-same-length : tie.Need-same-length
-same-length c = search needs
 
 returns : tie.Need-returns
 returns c =
@@ -31,4 +25,5 @@ returns c =
 pub put-figure-spec : {M : Type 1} → statement M
 put-figure-spec =
     tie.close
-    (tie.spec put-number-requires slice-aggregate-put-text put-text-requires same-length returns)
+    (tie.spec
+    put-number-requires (λ c. search needs) put-text-requires (λ c. search needs) returns)

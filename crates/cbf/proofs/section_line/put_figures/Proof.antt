@@ -43,9 +43,6 @@ put-figure-requires-4 c κs =
     let p = c .before .before .before .before .before .before .before .put-figure2 in
     rest-fits (p .last .0) (p .result) (figure (s .size)) (figure (s .elements)) (left-2 (c .before .before .before .before .before .before .before)) (c .before .before .before .put-figure3 .ensures)
 
-same-length : tie.Need-same-length
-same-length c = search needs
-
 returns : tie.Need-returns
 returns c =
     let s = c .before .before .before .before .before .before .before .before .before .before .before .before .before .before .before .before .before .args in
@@ -59,9 +56,5 @@ pub put-figures-spec : {M : Type 1} → statement M
 put-figures-spec =
     tie.close
     (tie.spec
-    put-figure-requires
-    put-figure-requires-2
-    put-figure-requires-3
-    put-figure-requires-4
-    same-length
+    put-figure-requires put-figure-requires-2 put-figure-requires-3 put-figure-requires-4 (λ c. search needs)
     returns)

@@ -73,17 +73,11 @@ put-name-requires c κs =
     let s = c .before .before .before .before .before .before .before .before .before .before .before .before .before .before .before .before .before in
     (s .pre .0, s .pre .1, first-fits (c .before .before .before .put-type .result) (name s) (10 ∷ []) (left-3 (c .before .before .before)))
 
-slice-aggregate-put-text : tie.Need-slice-aggregate-put-text
-slice-aggregate-put-text c = search needs
-
 put-text-requires : tie.Need-put-text-requires
 put-text-requires c κs =
     let s = c .before .before .before .before .before .before .before .before .before .before .before .before .before .before .before .before .before .before .before .before .before .before in
     let p = c .before .before .before .before .before .before .before .before .put-type in
     rest-fits (p .last .0) (p .result) (name s) (10 ∷ []) (left-3 (c .before .before .before .before .before .before .before .before)) (c .before .before .before .before .put-name .ensures)
-
-same-length : tie.Need-same-length
-same-length c = search needs
 
 returns : tie.Need-returns
 returns c =
@@ -103,11 +97,5 @@ pub put-line-spec : {M : Type 1} → statement M
 put-line-spec =
     tie.close
     (tie.spec
-    put-figures-requires
-    put-compression-requires
-    put-type-requires
-    put-name-requires
-    slice-aggregate-put-text
-    put-text-requires
-    same-length
-    returns)
+    put-figures-requires put-compression-requires put-type-requires put-name-requires (λ c. search needs)
+    put-text-requires (λ c. search needs) returns)

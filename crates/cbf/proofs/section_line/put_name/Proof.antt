@@ -29,30 +29,15 @@ returns c =
     let a = c .before .before .before .args in
     rw (name-empty (a .file .now) (a .from) (a .to) (c .if1 .taken)) (omega arith, refl)
 
-slice-aggregate-put-text : tie.Need-slice-aggregate-put-text
-slice-aggregate-put-text c = search needs
-
 put-text-requires : tie.Need-put-text-requires
 put-text-requires c κs =
     let s = c .before .before .before .before .before in
     first-fits (s .args .at) (32 ∷ []) (part s) (fits s (omega arith))
 
-sub-put-text : tie.Need-sub-put-text
-sub-put-text c = search needs
-
-part-put-text-start : tie.Need-part-put-text-start
-part-put-text-start c = search needs
-
-part-put-text-end : tie.Need-part-put-text-end
-part-put-text-end c = search needs
-
 put-text-requires-2 : tie.Need-put-text-requires-2
 put-text-requires-2 c κs =
     let s = c .before .before .before .before .before .before .before .before .before .before in
     rest-fits (s .args .out .now) (s .args .at) (32 ∷ []) (part s) (fits s (omega (arith, c .before .before .before .before .before .before .before .if1 .left))) (c .before .before .before .before .put-text .ensures)
-
-same-length : tie.Need-same-length
-same-length c = search needs
 
 returns-2 : tie.Need-returns-2
 returns-2 c =
@@ -64,12 +49,5 @@ pub put-name-spec : {M : Type 1} → statement M
 put-name-spec =
     tie.close
     (tie.spec
-    returns
-    slice-aggregate-put-text
-    put-text-requires
-    sub-put-text
-    part-put-text-start
-    part-put-text-end
-    put-text-requires-2
-    same-length
-    returns-2)
+    returns (λ c. search needs) put-text-requires (λ c. search needs) (λ c. search needs) (λ c. search needs)
+    put-text-requires-2 (λ c. search needs) returns-2)

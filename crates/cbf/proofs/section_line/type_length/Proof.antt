@@ -27,20 +27,11 @@ wider S16 h = refl
 wider U32 h = refl
 wider S32 h = refl
 
-enum-told : tie.Need-enum-told
-enum-told c = search needs
-
-enum-told-2 : tie.Need-enum-told-2
-enum-told-2 c = search needs
-
-returns : tie.Need-returns
-returns c = search needs
-
-returns-2 : tie.Need-returns-2
-returns-2 c = search needs
-
 returns-3 : tie.Need-returns-3
 returns-3 c = (wider (c .before .args .kind) (c .match .keys3), omega arith)
 
 pub type-length-spec : {M : Type 1} → statement M
-type-length-spec = tie.close (tie.spec enum-told enum-told-2 returns returns-2 returns-3)
+type-length-spec =
+    tie.close
+    (tie.spec
+    (λ c. search needs) (λ c. search needs) (λ c. search needs) (λ c. search needs) returns-3)

@@ -11,15 +11,6 @@ use Rattle.cbf.proofs.write_catalogue.catalogue.Tie as tie
 entries-requires : tie.Need-entries-requires
 entries-requires c κs = λ e. let z : _≡_ {A = ℕ} 0 1 = cc in absurd (omega arith)
 
-enum-known-counted : tie.Need-enum-known-counted
-enum-known-counted c = search needs
-
-enum-known-counted-2 : tie.Need-enum-known-counted-2
-enum-known-counted-2 c = search needs
-
-enum-known-counted-3 : tie.Need-enum-known-counted-3
-enum-known-counted-3 c = search needs
-
 few : (c : tie.After-known-told3) → c .before .counted3 .given .0 .0 ≤ 512
 few c =
     let b = c .before in
@@ -33,9 +24,6 @@ mul-needed c = omega (arith, few c)
 add-needed : tie.Need-add-needed
 add-needed c = omega (arith, few c)
 
-same-length : tie.Need-same-length
-same-length c = search needs
-
 returns : tie.Need-returns
 returns c =
     let b = c .before .before in
@@ -43,9 +31,6 @@ returns c =
     let a = m .before .before .before .before .args in
     let is = sym (b .counted3 .given .1) ∙ m .entries .ensures .0 in
     catalogue-no-room (a .limit) (now (a .file)) (now (a .out)) (m .entries .ensures .1) is (c .if1 .taken)
-
-put-heading-requires : tie.Need-put-heading-requires
-put-heading-requires c κs = search needs
 
 entries-requires-2 : tie.Need-entries-requires-2
 entries-requires-2 c κs =
@@ -56,9 +41,6 @@ entries-requires-2 c κs =
     let is = sym (b .counted3 .given .1) ∙ m .entries .ensures .0 in
     λ e. catalogue-fits (a .limit) (now (a .file)) (now (a .out)) (m .entries .ensures .1) is (h .before .before .if1 .left) (h .put-heading .ensures)
 
-same-length-2 : tie.Need-same-length-2
-same-length-2 c = search needs
-
 returns-2 : tie.Need-returns-2
 returns-2 c =
     let b = c .before in
@@ -67,9 +49,6 @@ returns-2 c =
     let is = sym (b .counted .given .1) ∙ m .entries .ensures .0 in
     catalogue-refused (a .limit) (now (a .file)) (now (a .out)) (m .entries .ensures .1) is
 
-same-length-3 : tie.Need-same-length-3
-same-length-3 c = search needs
-
 returns-3 : tie.Need-returns-3
 returns-3 c =
     let b = c .before in
@@ -77,9 +56,6 @@ returns-3 c =
     let a = m .before .before .before .before .args in
     let is = sym (b .counted2 .given .1) ∙ m .entries .ensures .0 in
     catalogue-long (a .limit) (now (a .file)) (now (a .out)) (m .entries .ensures .1) is
-
-same-length-4 : tie.Need-same-length-4
-same-length-4 c = search needs
 
 returns-4 : tie.Need-returns-4
 returns-4 c =
@@ -95,19 +71,6 @@ pub catalogue-spec : {M : Type 1} → statement M
 catalogue-spec =
     tie.close
     (tie.spec
-    entries-requires
-    enum-known-counted
-    enum-known-counted-2
-    enum-known-counted-3
-    mul-needed
-    add-needed
-    same-length
-    returns
-    put-heading-requires
-    entries-requires-2
-    same-length-2
-    returns-2
-    same-length-3
-    returns-3
-    same-length-4
-    returns-4)
+    entries-requires (λ c. search needs) (λ c. search needs) (λ c. search needs) mul-needed add-needed
+    (λ c. search needs) returns (λ c κs. search needs) entries-requires-2 (λ c. search needs) returns-2
+    (λ c. search needs) returns-3 (λ c. search needs) returns-4)

@@ -6,18 +6,6 @@ use Rattle.cbf.proofs.CatalogueLaws.{heading-put}
 use Rattle.cbf.proofs.write_catalogue.put_heading.Statement.{statement}
 use Rattle.cbf.proofs.write_catalogue.put_heading.Tie as tie
 
-slice-aggregate-put-text : tie.Need-slice-aggregate-put-text
-slice-aggregate-put-text c = search needs
-
-put-text-requires : tie.Need-put-text-requires
-put-text-requires c κs = search needs
-
-put-little-requires : tie.Need-put-little-requires
-put-little-requires c κs = search needs
-
-same-length : tie.Need-same-length
-same-length c = search needs
-
 returns : tie.Need-returns
 unfolding octets
 returns c =
@@ -27,4 +15,7 @@ returns c =
     heading-put (now (a .out)) (a .count) (t1 .put-text .ensures) (t2 .put-little .ensures)
 
 pub put-heading-spec : {M : Type 1} → statement M
-put-heading-spec = tie.close (tie.spec slice-aggregate-put-text put-text-requires put-little-requires same-length returns)
+put-heading-spec =
+    tie.close
+    (tie.spec
+    (λ c. search needs) (λ c κs. search needs) (λ c κs. search needs) (λ c. search needs) returns)

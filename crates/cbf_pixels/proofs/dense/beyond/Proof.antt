@@ -8,9 +8,6 @@ use borrow.Author.Needs.{needs}
 use Rattle.cbf_pixels.proofs.dense.beyond.Statement.{statement}
 use Rattle.cbf_pixels.proofs.dense.beyond.Tie as tie
 
-narrow-requires : tie.Need-narrow-requires
-narrow-requires c κs = search needs
-
 told : (c : tie.After-narrow) (t : Bool) → c .narrow .result ≡ t → ltb (natAbs (c .before .args .d)) (c .before .args .half) ≡ t
 told c t e = ap (λ (z : ℤ). ltb (natAbs z) (c .before .args .half)) (sym (toZ-ofZ (c .before .fits .d))) ∙ sym (c .narrow .ensures) ∙ e
 
@@ -21,4 +18,4 @@ returns-2 : tie.Need-returns-2
 returns-2 c = sym (over-yes (c .before .before .args .d) (c .before .before .args .half) (told (c .before) false (c .if1 .left)))
 
 pub beyond-spec : {M : Type 1} → statement M
-beyond-spec = tie.close (tie.spec narrow-requires returns returns-2)
+beyond-spec = tie.close (tie.spec (λ c κs. search needs) returns returns-2)

@@ -8,11 +8,8 @@ use Rattle.cbf_pixels.proofs.dense.dense.Tie as tie
 returns : tie.Need-returns
 returns c = λ e. never e
 
-add-result : tie.Need-add-result
-add-result c = search needs
-
 returns-2 : tie.Need-returns-2
 returns-2 c = λ e. ltb-true (c .before .args .n + 7) (c .before .args .left) e
 
 pub dense-spec : {M : Type 1} → statement M
-dense-spec = tie.close (tie.spec returns add-result returns-2)
+dense-spec = tie.close (tie.spec returns (λ c. search needs) returns-2)

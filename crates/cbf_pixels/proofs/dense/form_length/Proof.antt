@@ -3,17 +3,8 @@ use borrow.Author.Needs.{needs}
 use Rattle.cbf_pixels.proofs.dense.form_length.Statement.{statement}
 use Rattle.cbf_pixels.proofs.dense.form_length.Tie as tie
 
-add-result : tie.Need-add-result
-add-result c = search needs
-
-mul-result : tie.Need-mul-result
-mul-result c = search needs
-
-element-copy-out-result : tie.Need-element-copy-out-result
-element-copy-out-result c = search needs
-
 returns : tie.Need-returns
 returns c = length-is (c .before .args .table .now) (c .before .args .c) (c .before .pre .0) (c .before .pre .1)
 
 pub form-length-spec : {M : Type 1} → statement M
-form-length-spec = tie.close (tie.spec add-result mul-result element-copy-out-result returns)
+form-length-spec = tie.close (tie.spec (λ c. search needs) (λ c. search needs) (λ c. search needs) returns)

@@ -18,12 +18,6 @@ use borrow.Author.Needs.{needs}
 use Rattle.cbf_pixels.proofs.dense.put_over.Statement.{statement}
 use Rattle.cbf_pixels.proofs.dense.put_over.Tie as tie
 
-narrow-requires : tie.Need-narrow-requires
-narrow-requires c κs = search needs
-
-bits-of-far-requires : tie.Need-bits-of-far-requires
-bits-of-far-requires c κs = search needs
-
 form-15 : (c : tie.Then1) → Form (c .before .before .before .args .d) 15
     (octets 1 128 ++ octets 2 32768 ++ octets 4 2147483648 ++ octets 8 (bits 8 (c .before .before .before .args .d)))
 form-15 c =
@@ -42,12 +36,6 @@ put-15-requires c κs =
     let s = c .before .before .before .before .before in
     form-room (s .args .at) _ (form-15 (c .before .before)) (s .pre .2)
 
-add-result : tie.Need-add-result
-add-result c = search needs
-
-same-length : tie.Need-same-length
-same-length c = search needs
-
 returns : tie.Need-returns
 returns c =
     let s = c .before .before .before .before .before .before .before .before in
@@ -57,12 +45,6 @@ returns c =
     put-far (s .args .d) out (s .args .at) _ _ (omega (arith, ap length (f .is), f .long))
     (form-done out (s .args .at) _ f
     (c .before .before .put-15 .ensures ∙ ap (λ (n : ℕ). sets out (s .args .at) (octets 1 128 ++ octets 2 32768 ++ octets 4 2147483648 ++ octets 8 n)) w))
-
-beyond-requires : tie.Need-beyond-requires
-beyond-requires c κs = search needs
-
-beyond-requires-2 : tie.Need-beyond-requires-2
-beyond-requires-2 c κs = search needs
 
 -- how many widths do not hold the difference
 held-over : (c : tie.After-beyond2) → c .before .beyond .result + c .beyond2 .result ≡ over (c .before .before .before .before .before .args .d) 128 +
@@ -91,21 +73,12 @@ raised-requires c κs = subst (λ (z : ℤ). natAbs z < 2147483648) (sym (toZ-of
 stored-requires : tie.Need-stored-requires
 stored-requires c κs = (c .before .before .before .before .before .before .pre .0, few-over (c .before), c .raised .ensures .1)
 
-put8-requires : tie.Need-put8-requires
-put8-requires c κs = search needs
-
 form-length-requires : tie.Need-form-length-requires
 form-length-requires c κs = (
   c .before .before .before .before .before .before .before .before .before .before .before .pre .0,
   few-over
       (c .before .before .before .before .before .before),
 )
-
-add-result-2 : tie.Need-add-result-2
-add-result-2 c = search needs
-
-same-length-2 : tie.Need-same-length-2
-same-length-2 c = search needs
 
 returns-2 : tie.Need-returns-2
 returns-2 c =
@@ -123,19 +96,6 @@ pub put-over-spec : {M : Type 1} → statement M
 put-over-spec =
     tie.close
     (tie.spec
-    narrow-requires
-    bits-of-far-requires
-    put-15-requires
-    add-result
-    same-length
-    returns
-    beyond-requires
-    beyond-requires-2
-    add-c
-    raised-requires
-    stored-requires
-    put8-requires
-    form-length-requires
-    add-result-2
-    same-length-2
-    returns-2)
+    (λ c κs. search needs) (λ c κs. search needs) put-15-requires (λ c. search needs) (λ c. search needs)
+    returns (λ c κs. search needs) (λ c κs. search needs) add-c raised-requires stored-requires
+    (λ c κs. search needs) form-length-requires (λ c. search needs) (λ c. search needs) returns-2)

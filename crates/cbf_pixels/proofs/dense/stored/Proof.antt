@@ -13,21 +13,6 @@ is : (s : tie.Start) → (getD (s .args .table .now) (s .args .c) 0 < 64)
     (s .args .c) (s .args .n)) × (storedAs (s .args .c) (s .args .n) < 2 ^ 63)
 is s = stored-is (s .args .table .now) (s .args .n) (s .args .c) (s .pre .0) (s .pre .1) (s .pre .2)
 
-mul-shift : tie.Need-mul-shift
-mul-shift c = search needs
-
-element-copy-out-shift : tie.Need-element-copy-out-shift
-element-copy-out-shift c = search needs
-
-add-escapes : tie.Need-add-escapes
-add-escapes c = search needs
-
-mul-escapes : tie.Need-mul-escapes
-mul-escapes c = search needs
-
-element-copy-out-escapes : tie.Need-element-copy-out-escapes
-element-copy-out-escapes c = search needs
-
 shl-result : tie.Need-shl-result
 shl-result c = is (c .before .before) .0
 
@@ -41,11 +26,5 @@ pub stored-spec : {M : Type 1} → statement M
 stored-spec =
     tie.close
     (tie.spec
-    mul-shift
-    element-copy-out-shift
-    add-escapes
-    mul-escapes
-    element-copy-out-escapes
-    shl-result
-    add-result
-    returns)
+    (λ c. search needs) (λ c. search needs) (λ c. search needs) (λ c. search needs) (λ c. search needs)
+    shl-result add-result returns)

@@ -44,12 +44,6 @@ put-over-requires c κs = (
   gap-room (c .before .before .before .loop .before) (room c),
 )
 
-add-j : tie.Need-add-j Inv-loop μ-loop
-add-j c = omega arith
-
-loop-less : tie.Need-loop-less Inv-loop μ-loop
-loop-less c = omega arith
-
 loop-again : tie.Need-loop-again Inv-loop μ-loop
 loop-again c =
     let s = c .before .before .before .before .before .before .before .before in
@@ -66,16 +60,5 @@ pub write-dense-spec : {M : Type 1} → statement M
 write-dense-spec =
     tie.close
     (tie.spec
-    Inv-loop
-    μ-loop
-    loop-holds
-    add-z
-    mul-z
-    shared-slice-copy-out-z
-    sub-put-over
-    put-over-requires
-    add-j
-    loop-less
-    loop-again
-    same-length
-    returns)
+    Inv-loop μ-loop loop-holds add-z mul-z shared-slice-copy-out-z sub-put-over put-over-requires
+    (λ c. omega arith) (λ c. omega arith) loop-again same-length returns)

@@ -6,20 +6,11 @@ use borrow.Author.Needs.{needs}
 use Rattle.cbf_pixels.proofs.difference.far.Statement.{statement}
 use Rattle.cbf_pixels.proofs.difference.far.Tie as tie
 
-cast-result : tie.Need-cast-result
-cast-result c = search needs
-
 returns : tie.Need-returns
 returns c = far-up (c .before .args .n) (omega arith)
 
 returns-2 : tie.Need-returns-2
 returns-2 c = far-out (c .before .before .args .n) (omega arith) (omega arith)
-
-sub-result : tie.Need-sub-result
-sub-result c = search needs
-
-cast-result-2 : tie.Need-cast-result-2
-cast-result-2 c = search needs
 
 sub-result-2 : tie.Need-sub-result-2
 sub-result-2 c = record { sfits = far-fits (c .before .before .args .n) (omega arith) (omega arith) }
@@ -30,4 +21,5 @@ returns-3 c = toZ-ofZ (sub-result-2 c) ∙ far-down (c .before .before .args .n)
 pub far-spec : {M : Type 1} → statement M
 far-spec =
     tie.close
-    (tie.spec cast-result returns returns-2 sub-result cast-result-2 sub-result-2 returns-3)
+    (tie.spec
+    (λ c. search needs) returns returns-2 (λ c. search needs) (λ c. search needs) sub-result-2 returns-3)

@@ -48,9 +48,6 @@ number8 c = let h = room8 (c .before) in record { is = c .le8 .ensures .0; after
 shared-slice-read-o : tie.Need-shared-slice-read-o
 shared-slice-read-o c = omega (arith, room1 (c .before .before))
 
-wide-requires : tie.Need-wide-requires
-wide-requires c κs = search needs
-
 extended-requires : tie.Need-extended-requires
 extended-requires c κs = record { exponent = 7; power = refl; small = omega arith; fits = omega arith }
 
@@ -105,9 +102,6 @@ add-le8 c = omega (arith, room8 c)
 le8-requires : tie.Need-le8-requires
 le8-requires c κs = room8 c
 
-far-requires : tie.Need-far-requires
-far-requires c κs = search needs
-
 add-t19 : tie.Need-add-t19
 add-t19 c = omega (arith, room8 (c .before .before))
 
@@ -118,23 +112,6 @@ pub read-difference-spec : {M : Type 1} → statement M
 read-difference-spec =
     tie.close
     (tie.spec
-    shared-slice-read-o
-    wide-requires
-    extended-requires
-    add-t11
-    returns
-    add-le2
-    le2-requires
-    extended-requires-2
-    add-t14
-    returns-2
-    add-le4
-    le4-requires
-    extended-requires-3
-    add-t16
-    returns-3
-    add-le8
-    le8-requires
-    far-requires
-    add-t19
-    returns-4)
+    shared-slice-read-o (λ c κs. search needs) extended-requires add-t11 returns add-le2 le2-requires
+    extended-requires-2 add-t14 returns-2 add-le4 le4-requires extended-requires-3 add-t16 returns-3 add-le8
+    le8-requires (λ c κs. search needs) add-t19 returns-4)

@@ -29,14 +29,8 @@ fourth : (c : tie.Else6) → Tries (c .before .before .before .before .before .b
 unfolding half
 fourth c = tries-next (number4 (c .before)) (third (c .before .before .before)) (c .if6 .left)
 
-sub-left : tie.Need-sub-left
-sub-left c = search needs
-
 returns : tie.Need-returns
 returns c = let a = c .before .before .args in told-cut (tries-cut (tries-first (a .octets .now) (a .i)) (omega arith) (omega arith))
-
-shared-slice-read-if2 : tie.Need-shared-slice-read-if2
-shared-slice-read-if2 c = search needs
 
 returns-2 : tie.Need-returns-2
 unfolding half
@@ -45,24 +39,12 @@ returns-2 c = let a = c .before .before .before .before .args in told-got (tries
 returns-3 : tie.Need-returns-3
 returns-3 c = told-cut (tries-cut (second (c .before)) (omega arith) (omega arith))
 
-add-le2 : tie.Need-add-le2
-add-le2 c = search needs
-
-le2-requires : tie.Need-le2-requires
-le2-requires c κs = search needs
-
 returns-4 : tie.Need-returns-4
 unfolding half
 returns-4 c = told-got (tries-here (number2 (c .before)) (second (c .before .before .before)) (c .if4 .taken))
 
 returns-5 : tie.Need-returns-5
 returns-5 c = told-cut (tries-cut (third (c .before)) (omega arith) (omega arith))
-
-add-le4 : tie.Need-add-le4
-add-le4 c = search needs
-
-le4-requires : tie.Need-le4-requires
-le4-requires c κs = search needs
 
 returns-6 : tie.Need-returns-6
 unfolding half
@@ -84,16 +66,5 @@ pub whole-spec : {M : Type 1} → statement M
 whole-spec =
     tie.close
     (tie.spec
-    sub-left
-    returns
-    shared-slice-read-if2
-    returns-2
-    returns-3
-    add-le2
-    le2-requires
-    returns-4
-    returns-5
-    add-le4
-    le4-requires
-    returns-6
-    returns-7)
+    (λ c. search needs) returns (λ c. search needs) returns-2 returns-3 (λ c. search needs)
+    (λ c κs. search needs) returns-4 returns-5 (λ c. search needs) (λ c κs. search needs) returns-6 returns-7)

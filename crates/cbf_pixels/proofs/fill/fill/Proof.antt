@@ -10,11 +10,8 @@ fill-part-requires c κs =
     let a = c .before .before .args in
     (fillable-start (a .kind) (a .count) (a .octets .now) (c .before .before .pre .0), omega arith, omega arith)
 
-same-length : tie.Need-same-length
-same-length c = search needs
-
 returns : tie.Need-returns
 returns c = let P = c .before .before .before .before .pre in filled-end (c .before .before .before .before .args .kind) (P .0) (P .1) (c .before .fill-part .ensures)
 
 pub fill-spec : {M : Type 1} → statement M
-fill-spec = tie.close (tie.spec fill-part-requires same-length returns)
+fill-spec = tie.close (tie.spec fill-part-requires (λ c. search needs) returns)

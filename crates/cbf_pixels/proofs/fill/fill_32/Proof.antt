@@ -19,19 +19,10 @@ loop-holds c =
     let P = c .before .pre in
     (omega arith, refl, filled-none (a .k) (a .out .now) (P .0 .before) (P .1))
 
-add-fill-four : tie.Need-add-fill-four Inv-loop μ-loop
-add-fill-four c = omega arith
-
 fill-four-requires : tie.Need-fill-four-requires Inv-loop μ-loop
 fill-four-requires c κs =
     let P = c .before .before .before .before .pre in
     ready-then 4 60 (P .0) (c .before .before .loop .inv .2) (omega arith) (omega arith) refl (P .2)
-
-add-j : tie.Need-add-j Inv-loop μ-loop
-add-j c = omega arith
-
-loop-less : tie.Need-loop-less Inv-loop μ-loop
-loop-less c = omega arith
 
 loop-again : tie.Need-loop-again Inv-loop μ-loop
 loop-again c = (omega arith, omega arith, filled-then (c .before .before .before .before .loop .inv .2) (c .before .fill-four .ensures) refl refl)
@@ -46,13 +37,5 @@ pub fill-32-spec : {M : Type 1} → statement M
 fill-32-spec =
     tie.close
     (tie.spec
-    Inv-loop
-    μ-loop
-    loop-holds
-    add-fill-four
-    fill-four-requires
-    add-j
-    loop-less
-    loop-again
-    same-length
-    returns)
+    Inv-loop μ-loop loop-holds (λ c. omega arith) fill-four-requires (λ c. omega arith) (λ c. omega arith)
+    loop-again same-length returns)

@@ -25,12 +25,6 @@ loop-holds c =
     let u = unpacks-held (c .before .pre .0) in
     (omega arith, filled-as (filled-none (a .k) (a .out .now) (u .before) (omega arith)) refl refl refl (omega arith))
 
-add-wide : tie.Need-add-wide Inv-loop μ-loop
-add-wide c = omega arith
-
-shared-slice-read-wide : tie.Need-shared-slice-read-wide Inv-loop μ-loop
-shared-slice-read-wide c = omega arith
-
 wide-requires : tie.Need-wide-requires Inv-loop μ-loop
 wide-requires c κs = tt
 
@@ -72,20 +66,8 @@ add-z c =
     let g = stepped (unpacks c) (took c) in
     held-sum {a = toZ w64 (c .before .before .before .before .loop .z)} refl (g .held-value) (g .small) .0
 
-add-z-2 : tie.Need-add-z-2 Inv-loop μ-loop
-add-z-2 c = omega arith
-
-mul-z : tie.Need-mul-z Inv-loop μ-loop
-mul-z c = omega arith
-
 slice-set-from-z : tie.Need-slice-set-from-z Inv-loop μ-loop
 slice-set-from-z c = omega (arith, filled-length (c .before .before .before .before .loop .inv .1))
-
-add-j : tie.Need-add-j Inv-loop μ-loop
-add-j c = omega arith
-
-loop-less : tie.Need-loop-less Inv-loop μ-loop
-loop-less c = omega arith
 
 loop-again : tie.Need-loop-again Inv-loop μ-loop
 loop-again c =
@@ -109,19 +91,6 @@ pub fill-block-spec : {M : Type 1} → statement M
 fill-block-spec =
     tie.close
     (tie.spec
-    Inv-loop
-    μ-loop
-    loop-holds
-    add-wide
-    shared-slice-read-wide
-    wide-requires
-    extended-requires
-    add-z
-    add-z-2
-    mul-z
-    slice-set-from-z
-    add-j
-    loop-less
-    loop-again
-    same-length
-    returns)
+    Inv-loop μ-loop loop-holds (λ c. omega arith) (λ c. omega arith) wide-requires extended-requires add-z
+    (λ c. omega arith) (λ c. omega arith) slice-set-from-z (λ c. omega arith) (λ c. omega arith) loop-again
+    same-length returns)

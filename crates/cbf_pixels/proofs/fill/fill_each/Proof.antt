@@ -19,19 +19,10 @@ loop-holds c =
     let P = c .before .pre in
     (omega arith, filled-none (a .k) (a .out .now) (P .0 .before) (P .1))
 
-add-fill-one : tie.Need-add-fill-one Inv-loop μ-loop
-add-fill-one c = omega arith
-
 fill-one-requires : tie.Need-fill-one-requires Inv-loop μ-loop
 fill-one-requires c κs =
     let P = c .before .before .before .before .pre in
     ready-then 1 15 (P .0) (c .before .before .loop .inv .1) (omega arith) (omega arith) refl (P .2)
-
-add-j : tie.Need-add-j Inv-loop μ-loop
-add-j c = omega arith
-
-loop-less : tie.Need-loop-less Inv-loop μ-loop
-loop-less c = omega arith
 
 loop-again : tie.Need-loop-again Inv-loop μ-loop
 loop-again c = (omega arith, filled-then (c .before .before .before .before .loop .inv .1) (c .before .fill-one .ensures) refl refl)
@@ -46,13 +37,5 @@ pub fill-each-spec : {M : Type 1} → statement M
 fill-each-spec =
     tie.close
     (tie.spec
-    Inv-loop
-    μ-loop
-    loop-holds
-    add-fill-one
-    fill-one-requires
-    add-j
-    loop-less
-    loop-again
-    same-length
-    returns)
+    Inv-loop μ-loop loop-holds (λ c. omega arith) fill-one-requires (λ c. omega arith) (λ c. omega arith)
+    loop-again same-length returns)

@@ -6,23 +6,11 @@ use Rattle.cbf_pixels.proofs.Filling.{filled-none, filled-as, ready-the
 use Rattle.cbf_pixels.proofs.fill.fill_few.Statement.{statement}
 use Rattle.cbf_pixels.proofs.fill.fill_few.Tie as tie
 
-fill-each-requires : tie.Need-fill-each-requires
-fill-each-requires c κs = search needs
-
-same-length : tie.Need-same-length
-same-length c = search needs
-
-returns : tie.Need-returns
-returns c = search needs
-
 fill-32-requires : tie.Need-fill-32-requires
 fill-32-requires c κs =
     let a = c .before .before .before .args in
     let P = c .before .before .before .pre in
     ready-then 32 480 (P .0) (filled-none (a .k) (a .out .now) (P .0 .before) (P .1)) (omega arith) (omega arith) (omega arith) (P .2)
-
-same-length-2 : tie.Need-same-length-2
-same-length-2 c = search needs
 
 returns-2 : tie.Need-returns-2
 returns-2 c = filled-as (c .before .fill-32 .ensures) refl (omega arith) refl refl
@@ -30,4 +18,6 @@ returns-2 c = filled-as (c .before .fill-32 .ensures) refl (omega arith) refl re
 pub fill-few-spec : {M : Type 1} → statement M
 fill-few-spec =
     tie.close
-    (tie.spec fill-each-requires same-length returns fill-32-requires same-length-2 returns-2)
+    (tie.spec
+    (λ c κs. search needs) (λ c. search needs) (λ c. search needs) fill-32-requires (λ c. search needs)
+    returns-2)

@@ -12,16 +12,10 @@ fill-one-requires c κs =
     let P = c .before .before .pre in
     ready-then 1 15 (P .0) (filled-none (a .k) (a .out .now) (P .0 .before) (P .1)) (omega arith) (omega arith) (omega arith) (P .2)
 
-add-fill-one : tie.Need-add-fill-one
-add-fill-one c = search needs
-
 fill-one-requires-2 : tie.Need-fill-one-requires-2
 fill-one-requires-2 c κs =
     let P = c .before .before .before .before .before .pre in
     ready-then 1 15 (P .0) (c .before .before .fill-one .ensures) (omega arith) (omega arith) refl (P .2)
-
-add-fill-one-2 : tie.Need-add-fill-one-2
-add-fill-one-2 c = search needs
 
 fill-one-requires-3 : tie.Need-fill-one-requires-3
 fill-one-requires-3 c κs =
@@ -29,18 +23,12 @@ fill-one-requires-3 c κs =
     let two = filled-then {n′ = 2} (c .before .before .before .before .before .fill-one .ensures) (c .before .before .fill-one2 .ensures) refl refl in
     ready-then 1 15 (P .0) two (omega arith) (omega arith) refl (P .2)
 
-add-fill-one-3 : tie.Need-add-fill-one-3
-add-fill-one-3 c = search needs
-
 fill-one-requires-4 : tie.Need-fill-one-requires-4
 fill-one-requires-4 c κs =
     let P = c .before .before .before .before .before .before .before .before .before .before .before .pre in
     let two = filled-then {n′ = 2} (c .before .before .before .before .before .before .before .before .fill-one .ensures) (c .before .before .before .before .before .fill-one2 .ensures) refl refl in
     let three = filled-then {n′ = 3} two (c .before .before .fill-one3 .ensures) refl refl in
     ready-then 1 15 (P .0) three (omega arith) (omega arith) refl (P .2)
-
-same-length : tie.Need-same-length
-same-length c = search needs
 
 returns : tie.Need-returns
 returns c =
@@ -52,12 +40,5 @@ pub fill-four-spec : {M : Type 1} → statement M
 fill-four-spec =
     tie.close
     (tie.spec
-    fill-one-requires
-    add-fill-one
-    fill-one-requires-2
-    add-fill-one-2
-    fill-one-requires-3
-    add-fill-one-3
-    fill-one-requires-4
-    same-length
-    returns)
+    fill-one-requires (λ c. search needs) fill-one-requires-2 (λ c. search needs) fill-one-requires-3
+    (λ c. search needs) fill-one-requires-4 (λ c. search needs) returns)

@@ -14,15 +14,6 @@ add-z c =
     let g = stepped u (d .ensures) in
     held-sum (g .held-before) (g .held-value) (g .small) .0
 
-mul-z : tie.Need-mul-z
-mul-z c = search needs
-
-slice-set-from-z : tie.Need-slice-set-from-z
-slice-set-from-z c = search needs
-
-same-length : tie.Need-same-length
-same-length c = search needs
-
 returns : tie.Need-returns
 returns c =
     let a = c .before .before .before .before .before .before .args in
@@ -33,4 +24,6 @@ returns c =
 
 pub fill-one-spec : {M : Type 1} → statement M
 fill-one-spec =
-    tie.close (tie.spec read-difference-requires add-z mul-z slice-set-from-z same-length returns)
+    tie.close
+    (tie.spec
+    read-difference-requires add-z (λ c. search needs) (λ c. search needs) (λ c. search needs) returns)

@@ -33,20 +33,11 @@ returns c =
     let w = c .before .waits .ensures .0 (c .if1 .taken) in
     filled-part _ (l .inv .1) (l .inv .0) (inr (w .0, omega (arith, w .1))) refl refl refl refl
 
-sub-plain-run : tie.Need-sub-plain-run Inv-loop μ-loop
-sub-plain-run c = omega arith
-
 plain-run-requires : tie.Need-plain-run-requires Inv-loop μ-loop
 plain-run-requires c κs = c .before .before .before .loop .inv .1 .inside
 
-sub-part : tie.Need-sub-part Inv-loop μ-loop
-sub-part c = omega arith
-
 part-requires : tie.Need-part-requires Inv-loop μ-loop
 part-requires c κs = tt
-
-add-fill-few : tie.Need-add-fill-few Inv-loop μ-loop
-add-fill-few c = omega arith
 
 fill-few-requires : tie.Need-fill-few-requires Inv-loop μ-loop
 fill-few-requires c κs =
@@ -57,9 +48,6 @@ fill-few-requires c κs =
     let t = c .before .before .before .before .before .before .loop-test .taken in
     let r = part-then (n .result) (P .0) (P .1) (l .inv .1) w (omega (arith, n .ensures .0)) (n .ensures .1) refl (P .2) in
     (r .0, r .1, r .2, n .ensures .1)
-
-add-fill-run : tie.Need-add-fill-run Inv-loop μ-loop
-add-fill-run c = omega arith
 
 fill-run-requires : tie.Need-fill-run-requires Inv-loop μ-loop
 fill-run-requires c κs =
@@ -112,24 +100,6 @@ pub fill-part-spec : {M : Type 1} → statement M
 fill-part-spec =
     tie.close
     (tie.spec
-    Inv-loop
-    μ-loop
-    loop-holds
-    sub-waits
-    waits-requires
-    same-length
-    returns
-    sub-plain-run
-    plain-run-requires
-    sub-part
-    part-requires
-    add-fill-few
-    fill-few-requires
-    add-fill-run
-    fill-run-requires
-    add-t21
-    add-j
-    loop-less
-    loop-again
-    same-length-2
-    returns-2)
+    Inv-loop μ-loop loop-holds sub-waits waits-requires same-length returns (λ c. omega arith)
+    plain-run-requires (λ c. omega arith) part-requires (λ c. omega arith) fill-few-requires
+    (λ c. omega arith) fill-run-requires add-t21 add-j loop-less loop-again same-length-2 returns-2)

@@ -23,12 +23,6 @@ loop-holds c =
     let u = unpacks-held (c .before .pre .0) in
     (omega arith, refl, filled-as (filled-none (a .k) (a .out .now) (u .before) (omega arith)) refl refl refl (omega arith))
 
-add-fill-block : tie.Need-add-fill-block Inv-loop μ-loop
-add-fill-block c = omega arith
-
-add-fill-block-2 : tie.Need-add-fill-block-2 Inv-loop μ-loop
-add-fill-block-2 c = omega arith
-
 fill-block-requires : tie.Need-fill-block-requires Inv-loop μ-loop
 fill-block-requires c κs =
     let a = c .before .before .before .before .args in
@@ -36,12 +30,6 @@ fill-block-requires c κs =
     let l = c .before .before .loop in
     let u = unpacks-then 32 (unpacks-held (P .0)) (l .inv .2) (omega arith) in
     (u, omega arith, plain-part (a .octets .now) (a .i) (l .j) (a .n) 32 (P .2) (omega arith), omega (arith, filled-length (l .inv .2)))
-
-add-j : tie.Need-add-j Inv-loop μ-loop
-add-j c = omega arith
-
-loop-less : tie.Need-loop-less Inv-loop μ-loop
-loop-less c = omega arith
 
 loop-again : tie.Need-loop-again Inv-loop μ-loop
 loop-again c =
@@ -62,14 +50,5 @@ pub fill-run-spec : {M : Type 1} → statement M
 fill-run-spec =
     tie.close
     (tie.spec
-    Inv-loop
-    μ-loop
-    loop-holds
-    add-fill-block
-    add-fill-block-2
-    fill-block-requires
-    add-j
-    loop-less
-    loop-again
-    same-length
-    returns)
+    Inv-loop μ-loop loop-holds (λ c. omega arith) (λ c. omega arith) fill-block-requires (λ c. omega arith)
+    (λ c. omega arith) loop-again same-length returns)

@@ -36,4 +36,7 @@ returns c = λ e.
     low (sym (held-limit (c .before) .is) ∙ held-greatest (c .before)) (c .each-within .ensures e)
 
 pub all-typed-spec : {M : Type 1} → statement M
-all-typed-spec = tie.close (tie.spec (λ c κs. search needs) (λ c κs. search needs) cast-top each-within-requires returns)
+all-typed-spec =
+    tie.close
+    (tie.spec
+    (λ c κs. search needs) (λ c κs. search needs) cast-top each-within-requires returns)

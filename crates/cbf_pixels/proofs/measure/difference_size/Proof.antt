@@ -4,12 +4,6 @@ use Rattle.cbf_pixels.proofs.Forms.{narrow-true, narrow-false, form1, f
 use Rattle.cbf_pixels.proofs.measure.difference_size.Statement.{statement}
 use Rattle.cbf_pixels.proofs.measure.difference_size.Tie as tie
 
-narrow-requires : tie.Need-narrow-requires
-narrow-requires c κs = search needs
-
-narrow-requires-2 : tie.Need-narrow-requires-2
-narrow-requires-2 c κs = search needs
-
 returns : tie.Need-returns
 returns c =
     let s = c .before .before .before .before in
@@ -23,9 +17,6 @@ returns-2 c =
     let d = s .args .d in
     let f = s .fits .d in
     (form-size (form2 d (narrow-false d 128 _ f (c .before .narrow2 .ensures) (c .if2 .left)) (narrow-true d 32768 _ f (c .before .before .before .narrow .ensures) (c .before .before .if1 .taken))), omega arith, omega arith)
-
-narrow-requires-3 : tie.Need-narrow-requires-3
-narrow-requires-3 c κs = search needs
 
 returns-3 : tie.Need-returns-3
 returns-3 c =
@@ -45,10 +36,4 @@ pub difference-size-spec : {M : Type 1} → statement M
 difference-size-spec =
     tie.close
     (tie.spec
-    narrow-requires
-    narrow-requires-2
-    returns
-    returns-2
-    narrow-requires-3
-    returns-3
-    returns-4)
+    (λ c κs. search needs) (λ c κs. search needs) returns returns-2 (λ c κs. search needs) returns-3 returns-4)

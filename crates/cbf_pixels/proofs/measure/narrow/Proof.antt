@@ -12,9 +12,6 @@ use Rattle.cbf_pixels.proofs.Sizes.{mag-negative, narrow-low, narrow-hi
 use Rattle.cbf_pixels.proofs.measure.narrow.Statement.{statement}
 use Rattle.cbf_pixels.proofs.measure.narrow.Tie as tie
 
-cast-h : tie.Need-cast-h
-cast-h c = search needs
-
 half-is : (c : tie.Start) → toZ w64 (c .args .half) ≡ pos (c .args .half)
 half-is c = toZ-pos w64 (omega (arith, c .fits .half))
 
@@ -32,4 +29,4 @@ returns-2 : tie.Need-returns-2
 returns-2 c = ap₂ ltZ (toZ-ofZ (c .before .fits .d)) (half-is (c .before)) ∙ narrow-high (c .before .args .d) (c .before .args .half) (tested (c .before) false (c .if1 .left))
 
 pub narrow-spec : {M : Type 1} → statement M
-narrow-spec = tie.close (tie.spec cast-h sub-if1 returns returns-2)
+narrow-spec = tie.close (tie.spec (λ c. search needs) sub-if1 returns returns-2)

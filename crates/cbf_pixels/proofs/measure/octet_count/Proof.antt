@@ -20,12 +20,6 @@ Inv-loop pixels lo hi words₀ last₀ total₀ k₀ words last total k =
 abbrev μ-loop : tie.MeasureT-loop
 μ-loop pixels lo hi words₀ last₀ total₀ k₀ words last total k = length pixels - k
 
-least-of-requires : tie.Need-least-of-requires Inv-loop μ-loop
-least-of-requires c κs = search needs
-
-greatest-of-requires : tie.Need-greatest-of-requires Inv-loop μ-loop
-greatest-of-requires c κs = search needs
-
 loop-holds : tie.Need-loop-holds Inv-loop μ-loop
 loop-holds c = (
   all-none (c .before .before .args .kind) (c .before .least-of .ensures) (c .greatest-of .ensures)
@@ -34,15 +28,6 @@ loop-holds c = (
   omega arith,
   refl,
 )
-
-window-run-requires : tie.Need-window-run-requires Inv-loop μ-loop
-window-run-requires c κs = search needs
-
-sub-part : tie.Need-sub-part Inv-loop μ-loop
-sub-part c = search needs
-
-part-requires : tie.Need-part-requires Inv-loop μ-loop
-part-requires c κs = search needs
 
 size-of-part-requires : tie.Need-size-of-part-requires Inv-loop μ-loop
 size-of-part-requires c κs =
@@ -142,22 +127,6 @@ pub octet-count-spec : {M : Type 1} → statement M
 octet-count-spec =
     tie.close
     (tie.spec
-    Inv-loop
-    μ-loop
-    least-of-requires
-    greatest-of-requires
-    loop-holds
-    window-run-requires
-    sub-part
-    part-requires
-    size-of-part-requires
-    returns
-    add-total
-    add-total-2
-    add-k
-    sub-last
-    mul-last
-    shared-slice-copy-out-last
-    loop-less
-    loop-again
-    returns-2)
+    Inv-loop μ-loop (λ c κs. search needs) (λ c κs. search needs) loop-holds (λ c κs. search needs)
+    (λ c. search needs) (λ c κs. search needs) size-of-part-requires returns add-total add-total-2 add-k
+    sub-last mul-last shared-slice-copy-out-last loop-less loop-again returns-2)

@@ -49,9 +49,6 @@ sub-difference-size c =
 difference-is : (c : tie.Else2) → toZ w64 (ofZ w64 (toZ w64 (ofZ w64 (c .before .before .args .z)) -ℤ toZ w64 (ofZ w64 (c .before .before .args .last)))) ≡ c .before .before .args .z -ℤ c .before .before .args .last
 difference-is c = toZ-ofZ (sub-difference-size c) ∙ ap₂ _-ℤ_ (toZ-ofZ (c .before .before .fits .z)) (toZ-ofZ (c .before .before .fits .last))
 
-difference-size-requires : tie.Need-difference-size-requires
-difference-size-requires c κs = search needs
-
 returns-3 : tie.Need-returns-3
 returns-3 c =
     let a = c .before .before .before .args in
@@ -59,5 +56,4 @@ returns-3 c =
     (E .0 ∙ ap (λ (d : ℤ). length (packDifference d)) (difference-is (c .before)) ∙ sym (one-inside (a .lo) (a .hi) (a .last) (a .z) (inside (c .before))), E .2)
 
 pub pixel-size-spec : {M : Type 1} → statement M
-pixel-size-spec =
-    tie.close (tie.spec returns returns-2 sub-difference-size difference-size-requires returns-3)
+pixel-size-spec = tie.close (tie.spec returns returns-2 sub-difference-size (λ c κs. search needs) returns-3)

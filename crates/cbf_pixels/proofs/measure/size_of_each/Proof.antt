@@ -20,15 +20,6 @@ abbrev μ-loop : tie.MeasureT-loop
 loop-holds : tie.Need-loop-holds Inv-loop μ-loop
 loop-holds c = (held-none (c .fits .lo) (c .fits .hi) (c .fits .last) (c .args .pixels .now) (c .args .k) (c .pre .0), omega arith, omega arith)
 
-add-z : tie.Need-add-z Inv-loop μ-loop
-add-z c = search needs
-
-mul-z : tie.Need-mul-z Inv-loop μ-loop
-mul-z c = search needs
-
-shared-slice-copy-out-z : tie.Need-shared-slice-copy-out-z Inv-loop μ-loop
-shared-slice-copy-out-z c = search needs
-
 pixel-size-requires : tie.Need-pixel-size-requires Inv-loop μ-loop
 pixel-size-requires c κs = c .before .before .loop .inv .0 .typed
 
@@ -40,15 +31,6 @@ returns c =
     let t = c .before .before .before .loop-test .taken in
     let o = one-out (l .inv .0) (a .k + l .j) (c .before .pixel-size .result) _ refl (omega (arith, s .pre .1)) (toZ-ofZ (record { sfits = c .before .before .z .given })) (c .before .pixel-size .ensures .0) (c .if1 .taken) (a .n) (omega arith) (omega arith) in
     (held-outside (s .fits .lo) (s .fits .hi) (s .fits .last) (part (a .pixels .now) (a .k) (a .n)) o, omega arith)
-
-add-total : tie.Need-add-total Inv-loop μ-loop
-add-total c = search needs
-
-add-j : tie.Need-add-j Inv-loop μ-loop
-add-j c = search needs
-
-loop-less : tie.Need-loop-less Inv-loop μ-loop
-loop-less c = search needs
 
 loop-again : tie.Need-loop-again Inv-loop μ-loop
 loop-again c =
@@ -70,16 +52,5 @@ pub size-of-each-spec : {M : Type 1} → statement M
 size-of-each-spec =
     tie.close
     (tie.spec
-    Inv-loop
-    μ-loop
-    loop-holds
-    add-z
-    mul-z
-    shared-slice-copy-out-z
-    pixel-size-requires
-    returns
-    add-total
-    add-j
-    loop-less
-    loop-again
-    returns-2)
+    Inv-loop μ-loop loop-holds (λ c. search needs) (λ c. search needs) (λ c. search needs) pixel-size-requires
+    returns (λ c. search needs) (λ c. search needs) (λ c. search needs) loop-again returns-2)

@@ -9,18 +9,12 @@ use Rattle.cbf_pixels.proofs.Ranges.{part-words}
 use Rattle.cbf_pixels.proofs.measure.size_of_part.Statement.{statement}
 use Rattle.cbf_pixels.proofs.measure.size_of_part.Tie as tie
 
-size-of-each-requires : tie.Need-size-of-each-requires
-size-of-each-requires c κs = search needs
-
 returns : tie.Need-returns
 returns c =
     let s = c .before .before in
     let a = s .args in
     let r = c .size-of-each .ensures in
     ((held-is (s .fits .lo) (s .fits .hi) (s .fits .last) (part (a .pixels .now) (a .k) (a .n)) (r .0), r .1), s .pre .4)
-
-size-of-each-requires-2 : tie.Need-size-of-each-requires-2
-size-of-each-requires-2 c κs = search needs
 
 returns-2 : tie.Need-returns-2
 returns-2 c =
@@ -29,12 +23,6 @@ returns-2 c =
     let r = c .size-of-each2 .ensures in
     ((held-is (s .fits .lo) (s .fits .hi) (s .fits .last) (part (a .pixels .now) (a .k) (a .n)) (r .0), r .1), s .pre .4)
 
-typed-words-requires : tie.Need-typed-words-requires
-typed-words-requires c κs = search needs
-
-size-of-each-requires-3 : tie.Need-size-of-each-requires-3
-size-of-each-requires-3 c κs = search needs
-
 returns-3 : tie.Need-returns-3
 returns-3 c =
     let s = c .before .before .before .before .before .before in
@@ -42,9 +30,6 @@ returns-3 c =
       (held-is (s .fits .lo) (s .fits .hi) (s .fits .last) (part (a .pixels .now) (a .k) (a .n)) (c .size-of-each3 .ensures .0), c .size-of-each3 .ensures .1),
       c .before .before .typed-words .ensures .1,
     )
-
-size-of-words-requires : tie.Need-size-of-words-requires
-size-of-words-requires c κs = search needs
 
 returns-4 : tie.Need-returns-4
 returns-4 c =
@@ -63,12 +48,5 @@ pub size-of-part-spec : {M : Type 1} → statement M
 size-of-part-spec =
     tie.close
     (tie.spec
-    size-of-each-requires
-    returns
-    size-of-each-requires-2
-    returns-2
-    typed-words-requires
-    size-of-each-requires-3
-    returns-3
-    size-of-words-requires
-    returns-4)
+    (λ c κs. search needs) returns (λ c κs. search needs) returns-2 (λ c κs. search needs)
+    (λ c κs. search needs) returns-3 (λ c κs. search needs) returns-4)

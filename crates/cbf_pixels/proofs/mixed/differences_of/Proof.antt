@@ -10,4 +10,7 @@ returns c =
     joined-is (h .before .before .low-octets .ensures) (h .high-octets .ensures) (c .differences .ensures)
 
 pub differences-of-spec : {M : Type 1} → statement M
-differences-of-spec = tie.close (tie.spec (λ c κs. search needs) (λ c κs. search needs) (λ c κs. search needs) returns)
+differences-of-spec =
+    tie.close
+    (tie.spec
+    (λ c κs. search needs) (λ c κs. search needs) (λ c κs. search needs) returns)

@@ -67,5 +67,6 @@ returns-3 c = λ _.
 pub pass-mixed-spec : {M : Type 1} → statement M
 pass-mixed-spec =
     tie.close
-    (tie.spec (λ c κs. search needs) (λ c κs. search needs) returns differences-of-requires last-pixel-requires returns-2
-    (λ c κs. search needs) (λ c. search needs) ends-requires (λ c. search needs) returns-3)
+    (tie.spec
+    (λ c κs. search needs) (λ c κs. search needs) returns differences-of-requires last-pixel-requires
+    returns-2 (λ c κs. search needs) (λ c. search needs) ends-requires (λ c. search needs) returns-3)

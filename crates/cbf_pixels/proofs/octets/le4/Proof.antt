@@ -4,23 +4,12 @@ use Rattle.cbf_pixels.proofs.Little.{number-parts}
 use Rattle.cbf_pixels.proofs.octets.le4.Statement.{statement}
 use Rattle.cbf_pixels.proofs.octets.le4.Tie as tie
 
-le2-requires : tie.Need-le2-requires
-le2-requires c κs = search needs
-
-add-le2 : tie.Need-add-le2
-add-le2 c = search needs
-
-le2-requires-2 : tie.Need-le2-requires-2
-le2-requires-2 c κs = search needs
-
-mul-result : tie.Need-mul-result
-mul-result c = search needs
-
-add-result : tie.Need-add-result
-add-result c = search needs
-
 returns : tie.Need-returns
 returns c = let a = c .before .before .before .args in omega (arith, number-parts 2 2 (a .i) (a .octets .now) (omega arith))
 
 pub le4-spec : {M : Type 1} → statement M
-le4-spec = tie.close (tie.spec le2-requires add-le2 le2-requires-2 mul-result add-result returns)
+le4-spec =
+    tie.close
+    (tie.spec
+    (λ c κs. search needs) (λ c. search needs) (λ c κs. search needs) (λ c. search needs) (λ c. search needs)
+    returns)

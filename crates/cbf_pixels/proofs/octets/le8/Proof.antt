@@ -4,23 +4,12 @@ use Rattle.cbf_pixels.proofs.Little.{number-parts}
 use Rattle.cbf_pixels.proofs.octets.le8.Statement.{statement}
 use Rattle.cbf_pixels.proofs.octets.le8.Tie as tie
 
-le4-requires : tie.Need-le4-requires
-le4-requires c κs = search needs
-
-add-le4 : tie.Need-add-le4
-add-le4 c = search needs
-
-le4-requires-2 : tie.Need-le4-requires-2
-le4-requires-2 c κs = search needs
-
-mul-result : tie.Need-mul-result
-mul-result c = search needs
-
-add-result : tie.Need-add-result
-add-result c = search needs
-
 returns : tie.Need-returns
 returns c = let a = c .before .before .before .args in omega (arith, number-parts 4 4 (a .i) (a .octets .now) (omega arith))
 
 pub le8-spec : {M : Type 1} → statement M
-le8-spec = tie.close (tie.spec le4-requires add-le4 le4-requires-2 mul-result add-result returns)
+le8-spec =
+    tie.close
+    (tie.spec
+    (λ c κs. search needs) (λ c. search needs) (λ c κs. search needs) (λ c. search needs) (λ c. search needs)
+    returns)

@@ -8,18 +8,6 @@ use Rattle.cbf_pixels.proofs.Little.{octets-parts}
 use Rattle.cbf_pixels.proofs.octets.put4.Statement.{statement}
 use Rattle.cbf_pixels.proofs.octets.put4.Tie as tie
 
-put2-requires : tie.Need-put2-requires
-put2-requires c κs = search needs
-
-add-put2 : tie.Need-add-put2
-add-put2 c = search needs
-
-put2-requires-2 : tie.Need-put2-requires-2
-put2-requires-2 c κs = search needs
-
-same-length : tie.Need-same-length
-same-length c = search needs
-
 returns : tie.Need-returns
 returns c =
     let a = c .before .before .before .before .before .before .before .before .before .args in
@@ -28,4 +16,7 @@ returns c =
     ∙ octets-parts (a .out .now) (a .at) 2 2 (a .n)
 
 pub put4-spec : {M : Type 1} → statement M
-put4-spec = tie.close (tie.spec put2-requires add-put2 put2-requires-2 same-length returns)
+put4-spec =
+    tie.close
+    (tie.spec
+    (λ c κs. search needs) (λ c. search needs) (λ c κs. search needs) (λ c. search needs) returns)

@@ -8,18 +8,6 @@ use Rattle.cbf_pixels.proofs.Little.{octets-parts}
 use Rattle.cbf_pixels.proofs.octets.put8.Statement.{statement}
 use Rattle.cbf_pixels.proofs.octets.put8.Tie as tie
 
-put4-requires : tie.Need-put4-requires
-put4-requires c κs = search needs
-
-add-put4 : tie.Need-add-put4
-add-put4 c = search needs
-
-put4-requires-2 : tie.Need-put4-requires-2
-put4-requires-2 c κs = search needs
-
-same-length : tie.Need-same-length
-same-length c = search needs
-
 returns : tie.Need-returns
 returns c =
     let a = c .before .before .before .before .before .before .before .before .before .args in
@@ -28,4 +16,7 @@ returns c =
     ∙ octets-parts (a .out .now) (a .at) 4 4 (a .n)
 
 pub put8-spec : {M : Type 1} → statement M
-put8-spec = tie.close (tie.spec put4-requires add-put4 put4-requires-2 same-length returns)
+put8-spec =
+    tie.close
+    (tie.spec
+    (λ c κs. search needs) (λ c. search needs) (λ c κs. search needs) (λ c. search needs) returns)

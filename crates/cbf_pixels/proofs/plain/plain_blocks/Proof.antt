@@ -13,14 +13,8 @@ Inv-loop octets i limit left n₀ n = PlainRun octets i limit n
 abbrev μ-loop : tie.MeasureT-loop
 μ-loop octets i limit left n₀ n = limit - n
 
-sub-left : tie.Need-sub-left Inv-loop μ-loop
-sub-left c = search needs
-
 returns : tie.Need-returns Inv-loop μ-loop
 returns c = run-none (c .before .before .args .octets .now) (c .before .before .args .i) (c .before .before .args .limit) (c .before .before .pre .0)
-
-shared-slice-read-if2 : tie.Need-shared-slice-read-if2 Inv-loop μ-loop
-shared-slice-read-if2 c = omega arith
 
 returns-2 : tie.Need-returns-2 Inv-loop μ-loop
 returns-2 c = run-none (c .before .before .before .before .args .octets .now) (c .before .before .before .before .args .i)
@@ -69,20 +63,5 @@ pub plain-blocks-spec : {M : Type 1} → statement M
 plain-blocks-spec =
     tie.close
     (tie.spec
-    Inv-loop
-    μ-loop
-    sub-left
-    returns
-    shared-slice-read-if2
-    returns-2
-    loop-holds
-    sub-loop
-    sub-if3
-    returns-3
-    add-escapes
-    escapes-requires
-    returns-4
-    add-n
-    loop-less
-    loop-again
-    returns-5)
+    Inv-loop μ-loop (λ c. search needs) returns (λ c. omega arith) returns-2 loop-holds sub-loop sub-if3
+    returns-3 add-escapes escapes-requires returns-4 add-n loop-less loop-again returns-5)

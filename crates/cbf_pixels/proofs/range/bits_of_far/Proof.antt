@@ -46,5 +46,4 @@ returns-2 : tie.Need-returns-2
 returns-2 c = ap natAbs (same c) ∙ from-bits (c .before .args .d) (positive c)
 
 pub bits-of-far-spec : {M : Type 1} → statement M
-bits-of-far-spec =
-    tie.close (tie.spec sub-result cast-result sub-result-2 returns cast-result-2 returns-2)
+bits-of-far-spec = tie.close (tie.spec sub-result cast-result sub-result-2 returns cast-result-2 returns-2)

@@ -30,4 +30,6 @@ returns-2 c = λ e.
 
 pub each-within-spec : {M : Type 1} → statement M
 each-within-spec =
-    tie.close (tie.spec (λ c. search needs) (λ c κs. search needs) (λ c. search needs) returns (λ c κs. search needs) returns-2)
+    tie.close
+    (tie.spec
+    (λ c. search needs) (λ c κs. search needs) (λ c. search needs) returns (λ c κs. search needs) returns-2)

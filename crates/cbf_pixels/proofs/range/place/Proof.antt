@@ -6,16 +6,10 @@ use borrow.Author.Needs.{needs}
 use Rattle.cbf_pixels.proofs.range.place.Statement.{statement}
 use Rattle.cbf_pixels.proofs.range.place.Tie as tie
 
-bits-of-far-requires : tie.Need-bits-of-far-requires
-bits-of-far-requires c κs = search needs
-
-wrapping-add-u64-requires : tie.Need-wrapping-add-u64-requires
-wrapping-add-u64-requires c κs = search needs
-
 returns : tie.Need-returns
 returns c =
     let s = c .before .before in
     c .wrapping-add-u64 .ensures ∙ ap (λ (n : ℕ). (n + s .args .below) % 2 ^ 64) (c .before .bits-of-far .ensures ∙ ap (bits 8) (toZ-ofZ (s .fits .z)))
 
 pub place-spec : {M : Type 1} → statement M
-place-spec = tie.close (tie.spec bits-of-far-requires wrapping-add-u64-requires returns)
+place-spec = tie.close (tie.spec (λ c κs. search needs) (λ c κs. search needs) returns)

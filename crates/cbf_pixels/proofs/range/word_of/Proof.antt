@@ -11,9 +11,6 @@ use Rattle.cbf_pixels.proofs.Ranges.{sub-pos, word-small}
 use Rattle.cbf_pixels.proofs.range.word_of.Statement.{statement}
 use Rattle.cbf_pixels.proofs.range.word_of.Tie as tie
 
-cast-result : tie.Need-cast-result
-cast-result c = search needs
-
 is : (c : tie.Start) → toZ w64 (c .args .n % 4294967296) -ℤ pos 2147483648 ≡ subℕ (c .args .n % 4294967296) 2147483648
 is c =
     let l : c .args .n % 4294967296 < 2 ^ 63 = omega arith in
@@ -32,4 +29,4 @@ returns : tie.Need-returns
 returns c = toZ-ofZ (cast-result-2 c) ∙ toZ-ofZ (sub-result c) ∙ is c
 
 pub word-of-spec : {M : Type 1} → statement M
-word-of-spec = tie.close (tie.spec cast-result sub-result cast-result-2 returns)
+word-of-spec = tie.close (tie.spec (λ c. search needs) sub-result cast-result-2 returns)

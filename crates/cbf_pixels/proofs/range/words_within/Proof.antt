@@ -9,15 +9,6 @@ use Rattle.cbf_pixels.proofs.Ranges.{gathered-within, gathered-steps}
 use Rattle.cbf_pixels.proofs.range.words_within.Statement.{statement}
 use Rattle.cbf_pixels.proofs.range.words_within.Tie as tie
 
-add-below : tie.Need-add-below
-add-below c = search needs
-
-gather-requires : tie.Need-gather-requires
-gather-requires c κs = search needs
-
-add-result : tie.Need-add-result
-add-result c = search needs
-
 returns : tie.Need-returns
 returns c =
     let s = c .before .before .before in
@@ -33,9 +24,6 @@ returns c =
       g .long,
     )
 
-gather-requires-2 : tie.Need-gather-requires-2
-gather-requires-2 c κs = search needs
-
 returns-2 : tie.Need-returns-2
 returns-2 c =
     let s = c .before .before .before in
@@ -50,4 +38,6 @@ returns-2 c =
 
 pub words-within-spec : {M : Type 1} → statement M
 words-within-spec =
-    tie.close (tie.spec add-below gather-requires add-result returns gather-requires-2 returns-2)
+    tie.close
+    (tie.spec
+    (λ c. search needs) (λ c κs. search needs) (λ c. search needs) returns (λ c κs. search needs) returns-2)

@@ -31,4 +31,6 @@ returns-6 c e =
 pub go-on-spec : {M : Type 1} → statement M
 go-on-spec =
     tie.close
-    (tie.spec returns returns-2 returns-3 (λ c. search needs) (λ c. search needs) returns-4 (λ c. search needs) returns-5 returns-6)
+    (tie.spec
+    returns returns-2 returns-3 (λ c. search needs) (λ c. search needs) returns-4 (λ c. search needs)
+    returns-5 returns-6)

@@ -27,4 +27,6 @@ returns-5 c e =
 
 pub may-mix-spec : {M : Type 1} → statement M
 may-mix-spec =
-    tie.close (tie.spec returns returns-2 (λ c. search needs) returns-3 returns-4 (λ c. search needs) returns-5)
+    tie.close
+    (tie.spec
+    returns returns-2 (λ c. search needs) returns-3 returns-4 (λ c. search needs) returns-5)

@@ -91,5 +91,6 @@ returns c =
 pub pass-singles-spec : {M : Type 1} → statement M
 pass-singles-spec =
     tie.close
-    (tie.spec Inv-loop μ-loop loop-holds (λ c. c .before .loop .inv .0) (λ c κs. search needs) pass-few-requires add-k go-on-requires loop-less loop-again
-    (λ c κs. search needs) returns)
+    (tie.spec
+    Inv-loop μ-loop loop-holds (λ c. c .before .loop .inv .0) (λ c κs. search needs) pass-few-requires add-k
+    go-on-requires loop-less loop-again (λ c κs. search needs) returns)

@@ -20,5 +20,7 @@ returns-2 c =
 pub pass-turn-spec : {M : Type 1} → statement M
 pass-turn-spec =
     tie.close
-    (tie.spec (λ c κs. search needs) (λ c κs. search needs) (λ c κs. search needs) (λ c. search needs) (λ c. search needs) (λ c κs. search needs)
-    pass-mixed-requires (λ c κs. search needs) returns-2 (λ c κs. search needs) (λ c. search needs))
+    (tie.spec
+    (λ c κs. search needs) (λ c κs. search needs) (λ c κs. search needs) (λ c. search needs)
+    (λ c. search needs) (λ c κs. search needs) pass-mixed-requires (λ c κs. search needs) returns-2
+    (λ c κs. search needs) (λ c. search needs))

@@ -40,17 +40,8 @@ mul-pixel-at c = record { fits = omega (arith, fits c) }
 pixel-at-requires : tie.Need-pixel-at-requires Inv-loop μ-loop
 pixel-at-requires c κs = (record { type = c .before .before .before .before .before .args .kind; is = c .before .before .before .octets-per .ensures .0 }, fits c)
 
-mul-z : tie.Need-mul-z Inv-loop μ-loop
-mul-z c = omega arith
-
 slice-set-from-z : tie.Need-slice-set-from-z Inv-loop μ-loop
 slice-set-from-z c = omega (arith, c .before .before .loop .inv .1 .size, c .before .before .before .before .before .before .pre .1)
-
-add-k : tie.Need-add-k Inv-loop μ-loop
-add-k c = omega arith
-
-loop-less : tie.Need-loop-less Inv-loop μ-loop
-loop-less c = omega arith
 
 loop-again : tie.Need-loop-again Inv-loop μ-loop
 unfolding pixelAfter
@@ -74,17 +65,5 @@ pub fill-spec : {M : Type 1} → statement M
 fill-spec =
     tie.close
     (tie.spec
-    Inv-loop
-    μ-loop
-    octets-per-requires
-    is-signed-requires
-    loop-holds
-    mul-pixel-at
-    pixel-at-requires
-    mul-z
-    slice-set-from-z
-    add-k
-    loop-less
-    loop-again
-    same-length
-    returns)
+    Inv-loop μ-loop octets-per-requires is-signed-requires loop-holds mul-pixel-at pixel-at-requires
+    (λ c. omega arith) slice-set-from-z (λ c. omega arith) (λ c. omega arith) loop-again same-length returns)

@@ -15,9 +15,6 @@ use Rattle.cbf_pixels.proofs.uncompressed.pixel.Tie as tie
 small : {half n : ℕ} → Halved half n → n < 2 ^ 63
 small H = let p : 2 ^ (H .exponent) ≤ 2 ^ 31 = pow-le-pow-right (omega arith) (H .small) in omega (arith, H .power, H .fits)
 
-extended-requires : tie.Need-extended-requires
-extended-requires c κs = search needs
-
 returns : tie.Need-returns
 unfolding pixelOf pick
 returns c k e =
@@ -32,4 +29,4 @@ unfolding pixelOf pick
 returns-2 c k e = toZ-pos w64 (small (c .before .pre)) ∙ ap (λ (b : Bool). pixelOf b k (c .before .args .n)) (sym (c .if1 .left))
 
 pub pixel-spec : {M : Type 1} → statement M
-pixel-spec = tie.close (tie.spec extended-requires returns cast-result returns-2)
+pixel-spec = tie.close (tie.spec (λ c κs. search needs) returns cast-result returns-2)

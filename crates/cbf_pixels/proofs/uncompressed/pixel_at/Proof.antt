@@ -13,12 +13,6 @@ use borrow.Author.Needs.{needs}
 use Rattle.cbf_pixels.proofs.uncompressed.pixel_at.Statement.{statement}
 use Rattle.cbf_pixels.proofs.uncompressed.pixel_at.Tie as tie
 
-shared-slice-read-wide : tie.Need-shared-slice-read-wide
-shared-slice-read-wide c = search needs
-
-wide-requires : tie.Need-wide-requires
-wide-requires c κs = search needs
-
 pixel-requires : tie.Need-pixel-requires
 pixel-requires c κs = record { exponent = 7; power = refl; small = omega arith; fits = omega (arith, c .wide .ensures .1) }
 
@@ -29,9 +23,6 @@ returns c =
     held (c .pixel .result) (c .pixel .ok)
     ∙ c .pixel .ensures 1 refl
     ∙ pixel-is (a .signed) (a .i) (a .octets .now) (c .before .wide .ensures .0 ∙ sym (number-one (a .i) (a .octets .now) (omega (arith, c .before .before .before .before .before .pre .1)))) (c .before .before .before .if1 .taken)
-
-le2-requires : tie.Need-le2-requires
-le2-requires c κs = search needs
 
 pixel-requires-2 : tie.Need-pixel-requires-2
 pixel-requires-2 c κs = record { exponent = 15; power = refl; small = omega arith; fits = omega (arith, c .le2 .ensures .1) }
@@ -61,13 +52,5 @@ pub pixel-at-spec : {M : Type 1} → statement M
 pixel-at-spec =
     tie.close
     (tie.spec
-    shared-slice-read-wide
-    wide-requires
-    pixel-requires
-    returns
-    le2-requires
-    pixel-requires-2
-    returns-2
-    le4-requires
-    pixel-requires-3
-    returns-3)
+    (λ c. search needs) (λ c κs. search needs) pixel-requires returns (λ c κs. search needs) pixel-requires-2
+    returns-2 le4-requires pixel-requires-3 returns-3)

@@ -30,9 +30,6 @@ add-wide c = omega (arith, c .before .before .before .pre .0)
 shared-slice-read-wide : tie.Need-shared-slice-read-wide Inv-loop μ-loop
 shared-slice-read-wide c = omega (arith, c .before .before .before .before .pre .0)
 
-wide-requires : tie.Need-wide-requires Inv-loop μ-loop
-wide-requires c κs = search needs
-
 extended-requires : tie.Need-extended-requires Inv-loop μ-loop
 extended-requires c κs =
     record { exponent = 7; power = refl; small = omega arith; fits = omega (arith, c .wide .ensures .1) }
@@ -58,12 +55,6 @@ sum-requires c κs =
     let h = I .1 .high in
     let t = c .before .before .before .loop-test .taken in
     (omega (arith, S .0), omega (arith, S .1), held-small (c .extended .result) (small c))
-
-add-j : tie.Need-add-j Inv-loop μ-loop
-add-j c = omega arith
-
-loop-less : tie.Need-loop-less Inv-loop μ-loop
-loop-less c = omega arith
 
 loop-again : tie.Need-loop-again Inv-loop μ-loop
 loop-again c =
@@ -93,16 +84,5 @@ pub add-block-spec : {M : Type 1} → statement M
 add-block-spec =
     tie.close
     (tie.spec
-    Inv-loop
-    μ-loop
-    loop-holds
-    add-wide
-    shared-slice-read-wide
-    wide-requires
-    extended-requires
-    sum-requires
-    add-j
-    loop-less
-    loop-again
-    add-t13
-    returns)
+    Inv-loop μ-loop loop-holds add-wide shared-slice-read-wide (λ c κs. search needs) extended-requires
+    sum-requires (λ c. omega arith) (λ c. omega arith) loop-again add-t13 returns)

@@ -4,18 +4,6 @@ use Rattle.cbf_pixels.proofs.Passing.{adds-adds}
 use Rattle.cbf_pixels.proofs.validate.add_four.Statement.{statement}
 use Rattle.cbf_pixels.proofs.validate.add_four.Tie as tie
 
-add-one-requires : tie.Need-add-one-requires
-add-one-requires c κs = search needs
-
-add-one-requires-2 : tie.Need-add-one-requires-2
-add-one-requires-2 c κs = search needs
-
-add-one-requires-3 : tie.Need-add-one-requires-3
-add-one-requires-3 c κs = search needs
-
-add-one-requires-4 : tie.Need-add-one-requires-4
-add-one-requires-4 c κs = search needs
-
 returns : tie.Need-returns
 returns c =
     let a = c .before .before .before .before .before .args in
@@ -34,4 +22,5 @@ returns c =
 pub add-four-spec : {M : Type 1} → statement M
 add-four-spec =
     tie.close
-    (tie.spec add-one-requires add-one-requires-2 add-one-requires-3 add-one-requires-4 returns)
+    (tie.spec
+    (λ c κs. search needs) (λ c κs. search needs) (λ c κs. search needs) (λ c κs. search needs) returns)

@@ -10,9 +10,6 @@ use Rattle.cbf_pixels.proofs.Passing.{zero-small, held-small, pixel-at,
 use Rattle.cbf_pixels.proofs.validate.biased_of.Statement.{statement}
 use Rattle.cbf_pixels.proofs.validate.biased_of.Tie as tie
 
-biased-zero-requires : tie.Need-biased-zero-requires
-biased-zero-requires c κs = search needs
-
 sum-requires : tie.Need-sum-requires
 sum-requires c κs =
     let a = c .before .args in
@@ -30,4 +27,4 @@ returns c =
     (pixel-between (a .kind) (a .pixel) r e w, pixel-at (a .kind) (a .pixel) r e)
 
 pub biased-of-spec : {M : Type 1} → statement M
-biased-of-spec = tie.close (tie.spec biased-zero-requires sum-requires returns)
+biased-of-spec = tie.close (tie.spec (λ c κs. search needs) sum-requires returns)

@@ -7,8 +7,5 @@ use Rattle.cbf_pixels.proofs.validate.is_long.Tie as tie
 returns : tie.Need-returns
 returns c = λ e. never e
 
-returns-2 : tie.Need-returns-2
-returns-2 c = search needs
-
 pub is-long-spec : {M : Type 1} → statement M
-is-long-spec = tie.close (tie.spec returns returns-2)
+is-long-spec = tie.close (tie.spec returns (λ c. search needs))

@@ -72,12 +72,4 @@ pub pass-32-spec : {M : Type 1} → statement M
 pass-32-spec =
     tie.close
     (tie.spec
-    Inv-loop
-    μ-loop
-    loop-holds
-    add-four-requires
-    add-j
-    loop-less
-    loop-again
-    returns
-    returns-2)
+    Inv-loop μ-loop loop-holds add-four-requires add-j loop-less loop-again returns returns-2)

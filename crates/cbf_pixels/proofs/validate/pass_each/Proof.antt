@@ -93,16 +93,5 @@ pub pass-each-spec : {M : Type 1} → statement M
 pass-each-spec =
     tie.close
     (tie.spec
-    Inv-loop
-    μ-loop
-    loop-holds
-    whole-requires
-    returns
-    read-difference-requires
-    sum-requires
-    returns-2
-    returns-3
-    add-j
-    loop-less
-    loop-again
-    returns-4)
+    Inv-loop μ-loop loop-holds whole-requires returns read-difference-requires sum-requires returns-2
+    returns-3 add-j loop-less loop-again returns-4)

@@ -7,24 +7,6 @@ use Rattle.cbf_pixels.specs.Steps.{Passed}
 use Rattle.cbf_pixels.proofs.validate.pass_few.Statement.{statement}
 use Rattle.cbf_pixels.proofs.validate.pass_few.Tie as tie
 
-pass-each-requires : tie.Need-pass-each-requires
-pass-each-requires c κs = search needs
-
-returns : tie.Need-returns
-returns c = search needs
-
-sub-if2 : tie.Need-sub-if2
-sub-if2 c = search needs
-
-pass-each-requires-2 : tie.Need-pass-each-requires-2
-pass-each-requires-2 c κs = search needs
-
-returns-2 : tie.Need-returns-2
-returns-2 c = search needs
-
-pass-32-requires : tie.Need-pass-32-requires
-pass-32-requires c κs = search needs
-
 returns-3 : tie.Need-returns-3
 returns-3 c =
     let a = c .before .before .before .before .args in
@@ -37,10 +19,5 @@ pub pass-few-spec : {M : Type 1} → statement M
 pass-few-spec =
     tie.close
     (tie.spec
-    pass-each-requires
-    returns
-    sub-if2
-    pass-each-requires-2
-    returns-2
-    pass-32-requires
-    returns-3)
+    (λ c κs. search needs) (λ c. search needs) (λ c. search needs) (λ c κs. search needs) (λ c. search needs)
+    (λ c κs. search needs) returns-3)

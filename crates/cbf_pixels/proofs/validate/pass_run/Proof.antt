@@ -84,12 +84,4 @@ pub pass-run-spec : {M : Type 1} → statement M
 pass-run-spec =
     tie.close
     (tie.spec
-    Inv-loop
-    μ-loop
-    loop-holds
-    add-block-requires
-    returns
-    add-j
-    loop-less
-    loop-again
-    returns-2)
+    Inv-loop μ-loop loop-holds add-block-requires returns add-j loop-less loop-again returns-2)

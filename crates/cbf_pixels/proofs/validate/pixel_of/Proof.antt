@@ -9,9 +9,6 @@ use Rattle.cbf_pixels.proofs.validate.pixel_of.Tie as tie
 cast-result : tie.Need-cast-result
 cast-result c = record { sfits = between-small (c .args .kind) (c .args .biased) _ (c .pre) refl .0 }
 
-biased-zero-requires : tie.Need-biased-zero-requires
-biased-zero-requires c κs = search needs
-
 cast-result-2 : tie.Need-cast-result-2
 cast-result-2 c =
     let a = c .before .args in
@@ -28,5 +25,4 @@ returns c =
     toZ-ofZ (sub-result c) ∙ pixel-is (a .kind) (a .biased) (c .biased-zero .result) (c .before .pre) (c .biased-zero .ensures)
 
 pub pixel-of-spec : {M : Type 1} → statement M
-pixel-of-spec =
-    tie.close (tie.spec cast-result biased-zero-requires cast-result-2 sub-result returns)
+pixel-of-spec = tie.close (tie.spec cast-result (λ c κs. search needs) cast-result-2 sub-result returns)

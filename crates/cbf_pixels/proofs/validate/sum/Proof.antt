@@ -19,9 +19,6 @@ sum-at c = sum-of (c .args .biased) (c .args .d) (c .pre .0) (c .pre .1) (c .pre
 sum-is : (c : tie.Start) → toZ w64 (c .args .biased) +ℤ toZ w64 (ofZ w64 (c .args .d)) ≡ pos (sum-at c .total)
 sum-is c = computed-is (c .args .biased) (c .args .d) (c .pre .1) (c .pre .2) (sum-at c)
 
-cast-result : tie.Need-cast-result
-cast-result c = search needs
-
 add-result : tie.Need-add-result
 add-result c = record { sfits = subst (λ (z : ℤ). mag z < 2 ^ 63) (sym (sum-is c)) (sum-at c .small) }
 
@@ -34,4 +31,4 @@ returns : tie.Need-returns
 returns c = ap (λ (z : ℤ). pos (natAbs z)) (toZ-ofZ (add-result c) ∙ sum-is c) ∙ sum-at c .exact
 
 pub sum-spec : {M : Type 1} → statement M
-sum-spec = tie.close (tie.spec cast-result add-result cast-result-2 returns)
+sum-spec = tie.close (tie.spec (λ c. search needs) add-result cast-result-2 returns)

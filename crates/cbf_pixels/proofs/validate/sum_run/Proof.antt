@@ -24,19 +24,10 @@ add-raised c = omega (arith, c .before .before .before .pre .0)
 shared-slice-read-raised : tie.Need-shared-slice-read-raised Inv-loop μ-loop
 shared-slice-read-raised c = omega (arith, c .before .before .before .before .pre .0)
 
-raised-requires : tie.Need-raised-requires Inv-loop μ-loop
-raised-requires c κs = search needs
-
 add-total : tie.Need-add-total Inv-loop μ-loop
 add-total c =
     let m = c .before .before .before .loop .inv .1 .most in
     omega (arith, c .raised .ensures .0, c .before .before .before .loop .inv .0, c .before .before .before .before .before .pre .2)
-
-add-j : tie.Need-add-j Inv-loop μ-loop
-add-j c = omega arith
-
-loop-less : tie.Need-loop-less Inv-loop μ-loop
-loop-less c = omega arith
 
 loop-again : tie.Need-loop-again Inv-loop μ-loop
 loop-again c =
@@ -60,14 +51,5 @@ pub sum-run-spec : {M : Type 1} → statement M
 sum-run-spec =
     tie.close
     (tie.spec
-    Inv-loop
-    μ-loop
-    loop-holds
-    add-raised
-    shared-slice-read-raised
-    raised-requires
-    add-total
-    add-j
-    loop-less
-    loop-again
-    returns)
+    Inv-loop μ-loop loop-holds add-raised shared-slice-read-raised (λ c κs. search needs) add-total
+    (λ c. omega arith) (λ c. omega arith) loop-again returns)

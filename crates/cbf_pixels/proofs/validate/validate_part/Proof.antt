@@ -135,5 +135,7 @@ returns-3 c =
 pub validate-part-spec : {M : Type 1} → statement M
 validate-part-spec =
     tie.close
-    (tie.spec Inv-loop μ-loop (λ c κs. search needs) biased-of-requires loop-holds sub-waits (λ c κs. search needs) passed-requires returns sub-pass-turn
-    pass-turn-requires returns-2 add-k loop-less loop-again passed-requires-2 returns-3)
+    (tie.spec
+    Inv-loop μ-loop (λ c κs. search needs) biased-of-requires loop-holds sub-waits (λ c κs. search needs)
+    passed-requires returns sub-pass-turn pass-turn-requires returns-2 add-k loop-less loop-again
+    passed-requires-2 returns-3)

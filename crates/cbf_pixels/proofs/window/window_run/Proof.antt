@@ -19,17 +19,8 @@ Inv-loop pixels k last left first n₀ n = WindowRun pixels k (toZ w64 last) n �
 abbrev μ-loop : tie.MeasureT-loop
 μ-loop pixels k last left first n₀ n = left - n
 
-sub-left : tie.Need-sub-left Inv-loop μ-loop
-sub-left c = search needs
-
 returns : tie.Need-returns Inv-loop μ-loop
 returns c = run-none _ _ _ (c .before .pre)
-
-mul-first : tie.Need-mul-first Inv-loop μ-loop
-mul-first c = search needs
-
-shared-slice-copy-out-first : tie.Need-shared-slice-copy-out-first Inv-loop μ-loop
-shared-slice-copy-out-first c = search needs
 
 returns-2 : tie.Need-returns-2 Inv-loop μ-loop
 returns-2 c = run-none _ _ _ (c .before .before .before .pre)
@@ -40,25 +31,10 @@ returns-3 c = run-none _ _ _ (c .before .before .before .before .pre)
 loop-holds : tie.Need-loop-holds Inv-loop μ-loop
 loop-holds c = (run-none _ _ _ (c .before .before .before .before .pre), refl)
 
-sub-loop : tie.Need-sub-loop Inv-loop μ-loop
-sub-loop c = search needs
-
-add-same-window : tie.Need-add-same-window Inv-loop μ-loop
-add-same-window c = search needs
-
-same-window-requires : tie.Need-same-window-requires Inv-loop μ-loop
-same-window-requires c κs = search needs
-
 returns-4 : tie.Need-returns-4 Inv-loop μ-loop
 returns-4 c =
     let s = c .before .before .before .before .before .before .before .before in
     subst (λ (z : ℤ). WindowRun (s .args .pixels .now) (s .args .k) z (c .before .before .before .loop .n)) (toZ-ofZ (s .fits .last)) (c .before .before .before .loop .inv .0)
-
-add-n : tie.Need-add-n Inv-loop μ-loop
-add-n c = search needs
-
-loop-less : tie.Need-loop-less Inv-loop μ-loop
-loop-less c = search needs
 
 loop-again : tie.Need-loop-again Inv-loop μ-loop
 loop-again c =
@@ -73,20 +49,6 @@ pub window-run-spec : {M : Type 1} → statement M
 window-run-spec =
     tie.close
     (tie.spec
-    Inv-loop
-    μ-loop
-    sub-left
-    returns
-    mul-first
-    shared-slice-copy-out-first
-    returns-2
-    returns-3
-    loop-holds
-    sub-loop
-    add-same-window
-    same-window-requires
-    returns-4
-    add-n
-    loop-less
-    loop-again
-    returns-5)
+    Inv-loop μ-loop (λ c. search needs) returns (λ c. search needs) (λ c. search needs) returns-2 returns-3
+    loop-holds (λ c. search needs) (λ c. search needs) (λ c κs. search needs) returns-4 (λ c. search needs)
+    (λ c. search needs) loop-again returns-5)

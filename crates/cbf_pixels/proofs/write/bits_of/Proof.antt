@@ -11,9 +11,6 @@ use Rattle.cbf_pixels.proofs.Writing.{lifted, lifted-lt, lifted-bits, l
 use Rattle.cbf_pixels.proofs.write.bits_of.Statement.{statement}
 use Rattle.cbf_pixels.proofs.write.bits_of.Tie as tie
 
-cast-result : tie.Need-cast-result
-cast-result c = search needs
-
 sum : (c : tie.Start) → toZ w64 (ofZ w64 (c .args .d)) +ℤ toZ w64 (c .args .size) ≡ pos (lifted (c .args .d) (c .args .size))
 sum c = lifted-sum (c .args .d) (c .args .size) (c .fits .d) (omega arith) (omega arith)
 
@@ -26,13 +23,10 @@ add-result c = fits-pos _ (lifted (c .args .d) (c .args .size)) (sum c) (small c
 cast-result-2 : tie.Need-cast-result-2
 cast-result-2 c = unsigned _ (lifted (c .args .d) (c .args .size)) (toZ-ofZ (add-result c) ∙ sum c) (small c)
 
-rem-result : tie.Need-rem-result
-rem-result c = search needs
-
 returns : tie.Need-returns
 returns c k e =
     ap (λ (n : ℕ). n % c .args .size) (ap natAbs (toZ-ofZ (add-result c) ∙ sum c))
     ∙ lifted-bits (c .args .d) (c .args .size) k (omega arith) e
 
 pub bits-of-spec : {M : Type 1} → statement M
-bits-of-spec = tie.close (tie.spec cast-result add-result cast-result-2 rem-result returns)
+bits-of-spec = tie.close (tie.spec (λ c. search needs) add-result cast-result-2 (λ c. search needs) returns)

@@ -9,18 +9,6 @@ use Rattle.cbf_pixels.proofs.Writing.{sets-then}
 use Rattle.cbf_pixels.proofs.write.put_15.Statement.{statement}
 use Rattle.cbf_pixels.proofs.write.put_15.Tie as tie
 
-put-7-requires : tie.Need-put-7-requires
-put-7-requires c κs = search needs
-
-add-put8 : tie.Need-add-put8
-add-put8 c = search needs
-
-put8-requires : tie.Need-put8-requires
-put8-requires c κs = search needs
-
-same-length : tie.Need-same-length
-same-length c = search needs
-
 returns : tie.Need-returns
 unfolding octets
 returns c =
@@ -30,4 +18,7 @@ returns c =
     ∙ sets-then (a .out .now) (a .at) 7 (octets 1 128 ++ octets 2 32768 ++ octets 4 2147483648) (octets 8 (a .n)) refl
 
 pub put-15-spec : {M : Type 1} → statement M
-put-15-spec = tie.close (tie.spec put-7-requires add-put8 put8-requires same-length returns)
+put-15-spec =
+    tie.close
+    (tie.spec
+    (λ c κs. search needs) (λ c. search needs) (λ c κs. search needs) (λ c. search needs) returns)

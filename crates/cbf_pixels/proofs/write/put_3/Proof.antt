@@ -9,18 +9,6 @@ use Rattle.cbf_pixels.proofs.Writing.{sets-then}
 use Rattle.cbf_pixels.proofs.write.put_3.Statement.{statement}
 use Rattle.cbf_pixels.proofs.write.put_3.Tie as tie
 
-put1-requires : tie.Need-put1-requires
-put1-requires c κs = search needs
-
-add-put2 : tie.Need-add-put2
-add-put2 c = search needs
-
-put2-requires : tie.Need-put2-requires
-put2-requires c κs = search needs
-
-same-length : tie.Need-same-length
-same-length c = search needs
-
 returns : tie.Need-returns
 unfolding octets
 returns c =
@@ -30,4 +18,7 @@ returns c =
     ∙ sets-then (a .out .now) (a .at) 1 (octets 1 128) (octets 2 (a .n)) refl
 
 pub put-3-spec : {M : Type 1} → statement M
-put-3-spec = tie.close (tie.spec put1-requires add-put2 put2-requires same-length returns)
+put-3-spec =
+    tie.close
+    (tie.spec
+    (λ c κs. search needs) (λ c. search needs) (λ c κs. search needs) (λ c. search needs) returns)

@@ -9,18 +9,6 @@ use Rattle.cbf_pixels.proofs.Writing.{sets-over}
 use Rattle.cbf_pixels.proofs.write.put_7.Statement.{statement}
 use Rattle.cbf_pixels.proofs.write.put_7.Tie as tie
 
-put4-requires : tie.Need-put4-requires
-put4-requires c κs = search needs
-
-add-put4 : tie.Need-add-put4
-add-put4 c = search needs
-
-put4-requires-2 : tie.Need-put4-requires-2
-put4-requires-2 c κs = search needs
-
-same-length : tie.Need-same-length
-same-length c = search needs
-
 returns : tie.Need-returns
 unfolding octets
 returns c =
@@ -30,4 +18,7 @@ returns c =
     ∙ sets-over (a .out .now) (a .at) 3 0 (a .n % 256) (128 ∷ 0 ∷ 128 ∷ []) (octets 3 (a .n / 256)) refl
 
 pub put-7-spec : {M : Type 1} → statement M
-put-7-spec = tie.close (tie.spec put4-requires add-put4 put4-requires-2 same-length returns)
+put-7-spec =
+    tie.close
+    (tie.spec
+    (λ c κs. search needs) (λ c. search needs) (λ c κs. search needs) (λ c. search needs) returns)

@@ -56,18 +56,6 @@ form-15 : (c : tie.Else3) → Form (c .before .before .before .before .before .b
     (octets 1 128 ++ octets 2 32768 ++ octets 4 2147483648 ++ octets 8 (bits 8 (c .before .before .before .before .before .before .before .args .d)))
 form-15 c = form8 (c .before .before .before .before .before .before .before .args .d) (from-2147483648 c)
 
-narrow-requires : tie.Need-narrow-requires
-narrow-requires c κs = search needs
-
-narrow-requires-2 : tie.Need-narrow-requires-2
-narrow-requires-2 c κs = search needs
-
-narrow-requires-3 : tie.Need-narrow-requires-3
-narrow-requires-3 c κs = search needs
-
-bits-of-far-requires : tie.Need-bits-of-far-requires
-bits-of-far-requires c κs = search needs
-
 bits-of-requires : tie.Need-bits-of-requires
 bits-of-requires c κs =
     let s = c .before .before .before .before in
@@ -77,12 +65,6 @@ put1-requires : tie.Need-put1-requires
 put1-requires c κs =
     let s = c .before .before .before .before .before in
     form-room (s .args .at) _ (form-1 (c .before .before)) (s .pre)
-
-add-result : tie.Need-add-result
-add-result c = search needs
-
-same-length : tie.Need-same-length
-same-length c = search needs
 
 returns : tie.Need-returns
 returns c =
@@ -102,12 +84,6 @@ put-3-requires c κs =
     let s = c .before .before .before .before .before .before .before in
     form-room (s .args .at) _ (form-3 (c .before .before)) (s .pre)
 
-add-result-2 : tie.Need-add-result-2
-add-result-2 c = search needs
-
-same-length-2 : tie.Need-same-length-2
-same-length-2 c = search needs
-
 returns-2 : tie.Need-returns-2
 returns-2 c =
     let s = c .before .before .before .before .before .before .before .before .before .before in
@@ -126,12 +102,6 @@ put-7-requires c κs =
     let s = c .before .before .before .before .before .before .before .before .before in
     form-room (s .args .at) _ (form-7 (c .before .before)) (s .pre)
 
-add-result-3 : tie.Need-add-result-3
-add-result-3 c = search needs
-
-same-length-3 : tie.Need-same-length-3
-same-length-3 c = search needs
-
 returns-3 : tie.Need-returns-3
 returns-3 c =
     let s = c .before .before .before .before .before .before .before .before .before .before .before .before in
@@ -145,12 +115,6 @@ put-15-requires c κs =
     let s = c .before .before .before .before .before .before .before .before .before in
     form-room (s .args .at) _ (form-15 (c .before .before)) (s .pre)
 
-add-result-4 : tie.Need-add-result-4
-add-result-4 c = search needs
-
-same-length-4 : tie.Need-same-length-4
-same-length-4 c = search needs
-
 returns-4 : tie.Need-returns-4
 returns-4 c =
     let s = c .before .before .before .before .before .before .before .before .before .before .before .before in
@@ -163,26 +127,7 @@ pub put-difference-spec : {M : Type 1} → statement M
 put-difference-spec =
     tie.close
     (tie.spec
-    narrow-requires
-    bits-of-requires
-    put1-requires
-    add-result
-    same-length
-    returns
-    narrow-requires-2
-    bits-of-requires-2
-    put-3-requires
-    add-result-2
-    same-length-2
-    returns-2
-    narrow-requires-3
-    bits-of-requires-3
-    put-7-requires
-    add-result-3
-    same-length-3
-    returns-3
-    bits-of-far-requires
-    put-15-requires
-    add-result-4
-    same-length-4
-    returns-4)
+    (λ c κs. search needs) bits-of-requires put1-requires (λ c. search needs) (λ c. search needs) returns
+    (λ c κs. search needs) bits-of-requires-2 put-3-requires (λ c. search needs) (λ c. search needs) returns-2
+    (λ c κs. search needs) bits-of-requires-3 put-7-requires (λ c. search needs) (λ c. search needs) returns-3
+    (λ c κs. search needs) put-15-requires (λ c. search needs) (λ c. search needs) returns-4)

@@ -18,30 +18,9 @@ abbrev μ-loop : tie.MeasureT-loop
 loop-holds : tie.Need-loop-holds Inv-loop μ-loop
 loop-holds c = (upto-none refl refl, omega arith)
 
-add-write-four : tie.Need-add-write-four Inv-loop μ-loop
-add-write-four c = omega arith
-
 write-four-requires : tie.Need-write-four-requires Inv-loop μ-loop
 write-four-requires c κs =
     upto-writable (writable-word (c .before .before .before .before .pre)) (c .before .before .loop .inv .0) 4 _ refl (omega arith)
-
-add-before : tie.Need-add-before Inv-loop μ-loop
-add-before c = omega arith
-
-add-before-2 : tie.Need-add-before-2 Inv-loop μ-loop
-add-before-2 c = omega arith
-
-mul-before : tie.Need-mul-before Inv-loop μ-loop
-mul-before c = omega arith
-
-shared-slice-copy-out-before : tie.Need-shared-slice-copy-out-before Inv-loop μ-loop
-shared-slice-copy-out-before c = omega arith
-
-add-j : tie.Need-add-j Inv-loop μ-loop
-add-j c = omega arith
-
-loop-less : tie.Need-loop-less Inv-loop μ-loop
-loop-less c = omega arith
 
 loop-again : tie.Need-loop-again Inv-loop μ-loop
 loop-again c =
@@ -62,17 +41,5 @@ pub write-128-spec : {M : Type 1} → statement M
 write-128-spec =
     tie.close
     (tie.spec
-    Inv-loop
-    μ-loop
-    loop-holds
-    add-write-four
-    write-four-requires
-    add-before
-    add-before-2
-    mul-before
-    shared-slice-copy-out-before
-    add-j
-    loop-less
-    loop-again
-    same-length
-    returns)
+    Inv-loop μ-loop loop-holds (λ c. omega arith) write-four-requires (λ c. omega arith) (λ c. omega arith)
+    (λ c. omega arith) (λ c. omega arith) (λ c. omega arith) (λ c. omega arith) loop-again same-length returns)

@@ -58,12 +58,6 @@ bits-of-requires c κs = omega (arith, near c)
 put1-requires : tie.Need-put1-requires Inv-loop μ-loop
 put1-requires c κs = omega (arith, c .before .before .before .before .before .before .pre .3, wrote-length (c .before .before .before .before .loop .inv .wrote))
 
-add-j : tie.Need-add-j Inv-loop μ-loop
-add-j c = omega arith
-
-loop-less : tie.Need-loop-less Inv-loop μ-loop
-loop-less c = omega arith
-
 loop-again : tie.Need-loop-again Inv-loop μ-loop
 loop-again c =
     let s = c .before .before .before .before .before .before .before .before .before in
@@ -84,18 +78,5 @@ pub write-block-spec : {M : Type 1} → statement M
 write-block-spec =
     tie.close
     (tie.spec
-    Inv-loop
-    μ-loop
-    loop-holds
-    add-z
-    mul-z
-    shared-slice-copy-out-z
-    add-put1
-    sub-bits-of
-    bits-of-requires
-    put1-requires
-    add-j
-    loop-less
-    loop-again
-    same-length
-    returns)
+    Inv-loop μ-loop loop-holds add-z mul-z shared-slice-copy-out-z add-put1 sub-bits-of bits-of-requires
+    put1-requires (λ c. omega arith) (λ c. omega arith) loop-again same-length returns)

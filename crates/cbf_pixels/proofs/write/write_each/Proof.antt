@@ -19,15 +19,6 @@ abbrev μ-loop : tie.MeasureT-loop
 loop-holds : tie.Need-loop-holds Inv-loop μ-loop
 loop-holds c = upto-none refl refl
 
-add-z : tie.Need-add-z Inv-loop μ-loop
-add-z c = omega arith
-
-mul-z : tie.Need-mul-z Inv-loop μ-loop
-mul-z c = omega arith
-
-shared-slice-copy-out-z : tie.Need-shared-slice-copy-out-z Inv-loop μ-loop
-shared-slice-copy-out-z c = omega arith
-
 room : (c : tie.After-put-difference-arg Inv-loop μ-loop) → Writable (c .before .before .before .before .before .args .pixels .now) (c .before .before .before .before .before .args .k + c .before .before .before .loop .j) 1 (toZ w64 (c .before .before .before .loop .before)) (c .before .before .before .loop .out) (c .before .before .before .loop .next)
 room c = upto-writable (writable-word (c .before .before .before .before .before .pre)) (c .before .before .before .loop .inv) 1 _ refl (omega arith)
 
@@ -36,12 +27,6 @@ sub-put-difference c = gap-fits (c .before .before .before .loop .before) (room 
 
 put-difference-requires : tie.Need-put-difference-requires Inv-loop μ-loop
 put-difference-requires c κs = gap-room (c .before .before .before .loop .before) (room c)
-
-add-j : tie.Need-add-j Inv-loop μ-loop
-add-j c = omega arith
-
-loop-less : tie.Need-loop-less Inv-loop μ-loop
-loop-less c = omega arith
 
 loop-again : tie.Need-loop-again Inv-loop μ-loop
 loop-again c =
@@ -59,16 +44,5 @@ pub write-each-spec : {M : Type 1} → statement M
 write-each-spec =
     tie.close
     (tie.spec
-    Inv-loop
-    μ-loop
-    loop-holds
-    add-z
-    mul-z
-    shared-slice-copy-out-z
-    sub-put-difference
-    put-difference-requires
-    add-j
-    loop-less
-    loop-again
-    same-length
-    returns)
+    Inv-loop μ-loop loop-holds (λ c. omega arith) (λ c. omega arith) (λ c. omega arith) sub-put-difference
+    put-difference-requires (λ c. omega arith) (λ c. omega arith) loop-again same-length returns)

@@ -11,9 +11,6 @@ use Rattle.cbf_pixels.proofs.write.write_few.Tie as tie
 write-each-requires : tie.Need-write-each-requires
 write-each-requires c κs = writable-word (c .before .before .before .pre .0)
 
-same-length : tie.Need-same-length
-same-length c = search needs
-
 returns : tie.Need-returns
 returns c = wrote-word (c .before .before .before .before .before .before .pre .0 .before) (c .before .before .write-each .ensures)
 
@@ -23,9 +20,6 @@ write-128-requires c κs =
     let e : s .args .n ≡ 128 = omega arith in
     writable-word (subst (λ (m : ℕ). Writable (s .args .pixels .now) (s .args .k) m (s .args .last) (s .args .out .now) (s .args .at)) e (s .pre .0))
 
-same-length-2 : tie.Need-same-length-2
-same-length-2 c = search needs
-
 returns-2 : tie.Need-returns-2
 returns-2 c =
     let s = c .before .before .before .before .before .before in
@@ -34,4 +28,5 @@ returns-2 c =
 pub write-few-spec : {M : Type 1} → statement M
 write-few-spec =
     tie.close
-    (tie.spec write-each-requires same-length returns write-128-requires same-length-2 returns-2)
+    (tie.spec
+    write-each-requires (λ c. search needs) returns write-128-requires (λ c. search needs) returns-2)

@@ -46,12 +46,6 @@ state-4 c =
     let s = c .before .before .before .before .before .before .before .before .before .before .before .before .before .before .before .before .before .before .before .before .before in
     upto-one (s .pre) (state-3 (c .before .before .before .before .before)) (s .args .k + 3) (omega arith) (omega arith) (c .before .before .put-difference4 .ensures)
 
-mul-z1 : tie.Need-mul-z1
-mul-z1 c = search needs
-
-shared-slice-copy-out-z1 : tie.Need-shared-slice-copy-out-z1
-shared-slice-copy-out-z1 c = search needs
-
 sub-put-difference : tie.Need-sub-put-difference
 sub-put-difference c =
     let s = c .before .before .before in
@@ -61,15 +55,6 @@ put-difference-requires : tie.Need-put-difference-requires
 put-difference-requires c κs =
     let s = c .before .before .before in
     gap-room (ofZ w64 (s .args .last)) (room s (state-0 s) (s .args .k) (omega arith) (omega arith))
-
-add-z2 : tie.Need-add-z2
-add-z2 c = search needs
-
-mul-z2 : tie.Need-mul-z2
-mul-z2 c = search needs
-
-shared-slice-copy-out-z2 : tie.Need-shared-slice-copy-out-z2
-shared-slice-copy-out-z2 c = search needs
 
 sub-put-difference-2 : tie.Need-sub-put-difference-2
 sub-put-difference-2 c =
@@ -81,15 +66,6 @@ put-difference-requires-2 c κs =
     let s = c .before .before .before .before .before .before .before .before in
     gap-room (word-at s (s .args .k)) (room s (state-1 (c .before .before)) (s .args .k + 1) (omega arith) (omega arith))
 
-add-z3 : tie.Need-add-z3
-add-z3 c = search needs
-
-mul-z3 : tie.Need-mul-z3
-mul-z3 c = search needs
-
-shared-slice-copy-out-z3 : tie.Need-shared-slice-copy-out-z3
-shared-slice-copy-out-z3 c = search needs
-
 sub-put-difference-3 : tie.Need-sub-put-difference-3
 sub-put-difference-3 c =
     let s = c .before .before .before .before .before .before .before .before .before .before .before .before .before in
@@ -99,15 +75,6 @@ put-difference-requires-3 : tie.Need-put-difference-requires-3
 put-difference-requires-3 c κs =
     let s = c .before .before .before .before .before .before .before .before .before .before .before .before .before in
     gap-room (word-at s (s .args .k + 1)) (room s (state-2 (c .before .before)) (s .args .k + 2) (omega arith) (omega arith))
-
-add-put-difference : tie.Need-add-put-difference
-add-put-difference c = search needs
-
-mul-put-difference : tie.Need-mul-put-difference
-mul-put-difference c = search needs
-
-shared-slice-copy-out-put-difference : tie.Need-shared-slice-copy-out-put-difference
-shared-slice-copy-out-put-difference c = search needs
 
 sub-put-difference-4 : tie.Need-sub-put-difference-4
 sub-put-difference-4 c =
@@ -119,9 +86,6 @@ put-difference-requires-4 c κs =
     let s = c .before .before .before .before .before .before .before .before .before .before .before .before .before .before .before .before .before .before in
     gap-room (word-at s (s .args .k + 2)) (room s (state-3 (c .before .before)) (s .args .k + 3) (omega arith) (omega arith))
 
-same-length : tie.Need-same-length
-same-length c = search needs
-
 returns : tie.Need-returns
 returns c = state-4 c .wrote
 
@@ -129,24 +93,8 @@ pub write-four-spec : {M : Type 1} → statement M
 write-four-spec =
     tie.close
     (tie.spec
-    mul-z1
-    shared-slice-copy-out-z1
-    sub-put-difference
-    put-difference-requires
-    add-z2
-    mul-z2
-    shared-slice-copy-out-z2
-    sub-put-difference-2
-    put-difference-requires-2
-    add-z3
-    mul-z3
-    shared-slice-copy-out-z3
-    sub-put-difference-3
-    put-difference-requires-3
-    add-put-difference
-    mul-put-difference
-    shared-slice-copy-out-put-difference
-    sub-put-difference-4
-    put-difference-requires-4
-    same-length
+    (λ c. search needs) (λ c. search needs) sub-put-difference put-difference-requires (λ c. search needs)
+    (λ c. search needs) (λ c. search needs) sub-put-difference-2 put-difference-requires-2 (λ c. search needs)
+    (λ c. search needs) (λ c. search needs) sub-put-difference-3 put-difference-requires-3 (λ c. search needs)
+    (λ c. search needs) (λ c. search needs) sub-put-difference-4 put-difference-requires-4 (λ c. search needs)
     returns)

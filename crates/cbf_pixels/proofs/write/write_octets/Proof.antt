@@ -26,12 +26,6 @@ loop-holds c = (along-none refl refl, refl)
 writable : (s : tie.Start Inv-loop μ-loop) → Writable (s .args .pixels .now) 0 (length (s .args .pixels .now)) (pos 0) (s .args .out .now) (s .args .start)
 writable s = all-writable (s .args .pixels .now) (s .args .out .now) (s .args .start) (s .pre .0) (s .pre .1)
 
-window-run-requires : tie.Need-window-run-requires Inv-loop μ-loop
-window-run-requires c κs = omega arith
-
-sub-part : tie.Need-sub-part Inv-loop μ-loop
-sub-part c = omega arith
-
 part-requires : tie.Need-part-requires Inv-loop μ-loop
 part-requires c κs = tt
 
@@ -143,21 +137,6 @@ pub write-octets-spec : {M : Type 1} → statement M
 write-octets-spec =
     tie.close
     (tie.spec
-    Inv-loop
-    μ-loop
-    loop-holds
-    window-run-requires
-    sub-part
-    part-requires
-    write-part-requires
-    sub-used
-    write-run-requires
-    add-at
-    add-k
-    sub-last
-    mul-last
-    shared-slice-copy-out-last
-    loop-less
-    loop-again
-    same-length
-    returns)
+    Inv-loop μ-loop loop-holds (λ c κs. omega arith) (λ c. omega arith) part-requires write-part-requires
+    sub-used write-run-requires add-at add-k sub-last mul-last shared-slice-copy-out-last loop-less loop-again
+    same-length returns)

@@ -8,20 +8,11 @@ use borrow.Author.Needs.{needs}
 use Rattle.cbf_pixels.proofs.write.write_part.Statement.{statement}
 use Rattle.cbf_pixels.proofs.write.write_part.Tie as tie
 
-sub-left : tie.Need-sub-left
-sub-left c = search needs
-
-dense-requires : tie.Need-dense-requires
-dense-requires c κs = search needs
-
 write-dense-requires : tie.Need-write-dense-requires
 write-dense-requires c κs =
     let s = c .before .before .before .before in
     let l = c .before .before .dense .ensures (c .before .if1 .taken) in
     (s .pre .0, writable-word (writable-few (s .pre .3) (s .args .n + 7) (omega arith)))
-
-same-length : tie.Need-same-length
-same-length c = search needs
 
 returns : tie.Need-returns
 returns c =
@@ -35,9 +26,6 @@ write-few-requires c κs =
     let s = c .before .before .before .before in
     (writable-word (writable-few (s .pre .3) (s .args .n) (omega arith)), s .pre .1)
 
-same-length-2 : tie.Need-same-length-2
-same-length-2 c = search needs
-
 returns-2 : tie.Need-returns-2
 returns-2 c =
     let s = c .before .before .before .before .before .before .before in
@@ -47,11 +35,5 @@ pub write-part-spec : {M : Type 1} → statement M
 write-part-spec =
     tie.close
     (tie.spec
-    sub-left
-    dense-requires
-    write-dense-requires
-    same-length
-    returns
-    write-few-requires
-    same-length-2
-    returns-2)
+    (λ c. search needs) (λ c κs. search needs) write-dense-requires (λ c. search needs) returns
+    write-few-requires (λ c. search needs) returns-2)

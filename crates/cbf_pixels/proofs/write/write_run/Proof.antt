@@ -61,9 +61,6 @@ shared-slice-copy-out-before c = omega (arith, block (c .before .before .before)
 add-j : tie.Need-add-j Inv-loop μ-loop
 add-j c = omega (arith, block (c .before .before .before .before) .run .inside)
 
-loop-less : tie.Need-loop-less Inv-loop μ-loop
-loop-less c = omega arith
-
 loop-again : tie.Need-loop-again Inv-loop μ-loop
 loop-again c =
     let s = c .before .before .before .before .before .before .before .before in
@@ -83,18 +80,5 @@ pub write-run-spec : {M : Type 1} → statement M
 write-run-spec =
     tie.close
     (tie.spec
-    Inv-loop
-    μ-loop
-    loop-holds
-    add-write-block
-    add-write-block-2
-    write-block-requires
-    add-before
-    add-before-2
-    mul-before
-    shared-slice-copy-out-before
-    add-j
-    loop-less
-    loop-again
-    same-length
-    returns)
+    Inv-loop μ-loop loop-holds add-write-block add-write-block-2 write-block-requires add-before add-before-2
+    mul-before shared-slice-copy-out-before add-j (λ c. omega arith) loop-again same-length returns)

@@ -9,14 +9,8 @@ use Rattle.cbf_reader.proofs.base64.groups_hold.Tie as tie
 returns : tie.Need-returns
 returns c = sym (not-broken (c .before .args .g) (c .before .args .size) (c .if1 .taken))
 
-add-if2 : tie.Need-add-if2
-add-if2 c = search needs
-
 returns-2 : tie.Need-returns-2
 returns-2 c = sym (not-part (c .before .before .before .args .g) (c .before .before .before .args .size) (c .if2 .taken))
-
-mul-if3 : tie.Need-mul-if3
-mul-if3 c = search needs
 
 returns-3 : tie.Need-returns-3
 returns-3 c = sym (not-sized (c .before .before .before .before .before .args .g) (c .before .before .before .before .before .args .size) (c .if3 .taken))
@@ -36,4 +30,6 @@ returns-7 c = sym (not-padded (c .before .before .before .before .before .before
 pub groups-hold-spec : {M : Type 1} → statement M
 groups-hold-spec =
     tie.close
-    (tie.spec returns add-if2 returns-2 mul-if3 returns-3 returns-4 returns-5 returns-6 returns-7)
+    (tie.spec
+    returns (λ c. search needs) returns-2 (λ c. search needs) returns-3 returns-4 returns-5 returns-6
+    returns-7)

@@ -34,12 +34,6 @@ other x n upper lower digit =
     rw
     (outside 65 90 x upper, outside 97 122 x lower, outside 48 57 x digit, ne-eqb x 43 (n .0 .0 .0 .1), ne-eqb x 47 (n .0 .0 .1), ne-eqb x 61 (n .0 .1), ne-eqb x 9 (λ e. n .1 (inl e)), ne-eqb x 32 (λ e. n .1 (inr e)))
 
-add-t4 : tie.Need-add-t4
-add-t4 c = search needs
-
-sub-t6 : tie.Need-sub-t6
-sub-t6 c = search needs
-
 returns : tie.Need-returns
 unfolding symbol
 returns c = rw (c .match .keys1)
@@ -92,16 +86,5 @@ pub symbol-spec : {M : Type 1} → statement M
 symbol-spec =
     tie.close
     (tie.spec
-    add-t4
-    sub-t6
-    returns
-    returns-2
-    returns-3
-    returns-4
-    returns-5
-    returns-6
-    returns-7
-    returns-8
-    returns-9
-    returns-10
-    returns-11)
+    (λ c. search needs) (λ c. search needs) returns returns-2 returns-3 returns-4 returns-5 returns-6
+    returns-7 returns-8 returns-9 returns-10 returns-11)

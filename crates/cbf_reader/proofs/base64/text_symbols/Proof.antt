@@ -44,21 +44,6 @@ Inv-loop file from to run h₀ i₀ h i =
 abbrev μ-loop : tie.MeasureT-loop
 μ-loop file from to run h₀ i₀ h i = to - i
 
-after-blocks-requires : tie.Need-after-blocks-requires Inv-loop μ-loop
-after-blocks-requires c κs = search needs
-
-sub-with-letters : tie.Need-sub-with-letters Inv-loop μ-loop
-sub-with-letters c = search needs
-
-sub-with-letters-2 : tie.Need-sub-with-letters-2 Inv-loop μ-loop
-sub-with-letters-2 c = search needs
-
-shared-slice-read-with-letters : tie.Need-shared-slice-read-with-letters Inv-loop μ-loop
-shared-slice-read-with-letters c = search needs
-
-with-letters-requires : tie.Need-with-letters-requires Inv-loop μ-loop
-with-letters-requires c κs = search needs
-
 -- where the arms meet: the letters in front are added, or there are none
 module _ (c : tie.Joined1 Inv-loop μ-loop) where
   few : c .if1 .h .letters + c .if1 .h .pads ≤ c .before .after-blocks .result
@@ -96,27 +81,9 @@ so-far c stop =
       most = l .inv .1;
     }
 
-shared-slice-read-symbol : tie.Need-shared-slice-read-symbol Inv-loop μ-loop
-shared-slice-read-symbol c = search needs
-
-symbol-requires : tie.Need-symbol-requires Inv-loop μ-loop
-symbol-requires c κs = search needs
-
-enum-told : tie.Need-enum-told Inv-loop μ-loop
-enum-told c = search needs
-
 returns : tie.Need-returns Inv-loop μ-loop
 returns c =
     so-far (c .before .before .before .before .before) (λ h. byte-other _ (c .before .before .symbol .result) (c .before .before .symbol .ensures) (c .enum-told .given .1))
-
-with-symbol-requires : tie.Need-with-symbol-requires Inv-loop μ-loop
-with-symbol-requires c κs = search needs
-
-add-i : tie.Need-add-i Inv-loop μ-loop
-add-i c = search needs
-
-loop-less : tie.Need-loop-less Inv-loop μ-loop
-loop-less c = search needs
 
 loop-again : tie.Need-loop-again Inv-loop μ-loop
 loop-again c =
@@ -140,20 +107,6 @@ pub text-symbols-spec : {M : Type 1} → statement M
 text-symbols-spec =
     tie.close
     (tie.spec
-    Inv-loop
-    μ-loop
-    after-blocks-requires
-    sub-with-letters
-    sub-with-letters-2
-    shared-slice-read-with-letters
-    with-letters-requires
-    loop-holds
-    shared-slice-read-symbol
-    symbol-requires
-    enum-told
-    returns
-    with-symbol-requires
-    add-i
-    loop-less
-    loop-again
-    returns-2)
+    Inv-loop μ-loop (λ c κs. search needs) (λ c. search needs) (λ c. search needs) (λ c. search needs)
+    (λ c κs. search needs) loop-holds (λ c. search needs) (λ c κs. search needs) (λ c. search needs) returns
+    (λ c κs. search needs) (λ c. search needs) (λ c. search needs) loop-again returns-2)

@@ -7,15 +7,6 @@ use borrow.Author.Needs.{needs}
 use Rattle.cbf_reader.proofs.base64.with_letters.Statement.{statement}
 use Rattle.cbf_reader.proofs.base64.with_letters.Tie as tie
 
-symbol-requires : tie.Need-symbol-requires
-symbol-requires c κs = search needs
-
-with-symbol-requires : tie.Need-with-symbol-requires
-with-symbol-requires c κs = search needs
-
-add-t6 : tie.Need-add-t6
-add-t6 c = search needs
-
 returns : tie.Need-returns
 returns c =
     let a = c .before .before .before .args in
@@ -23,4 +14,7 @@ returns c =
     (c .before .with-symbol .ensures ∙ ap (addSymbolTo (a .g)) (c .before .before .symbol .ensures))
 
 pub with-letters-spec : {M : Type 1} → statement M
-with-letters-spec = tie.close (tie.spec symbol-requires with-symbol-requires add-t6 returns)
+with-letters-spec =
+    tie.close
+    (tie.spec
+    (λ c κs. search needs) (λ c κs. search needs) (λ c. search needs) returns)

@@ -10,23 +10,11 @@ use Rattle.cbf_reader.proofs.Base64Laws.{line-closing, line-symbols, li
 use Rattle.cbf_reader.proofs.base64_text.base64_line.Statement.{statement}
 use Rattle.cbf_reader.proofs.base64_text.base64_line.Tie as tie
 
-closing-line-requires : tie.Need-closing-line-requires
-closing-line-requires c κs = search needs
-
-enum-known-close : tie.Need-enum-known-close
-enum-known-close c = search needs
-
 returns : tie.Need-returns
 returns c =
     let a = c .before .before .before .before .before .args in
     let g = c .before .close .given in
     (line-closing (now (a .file)) (a .at) (a .limit) (a .g) (g .0 .0) (sym (g .1) ∙ c .before .before .before .closing-line .ensures), omega arith)
-
-enum-told : tie.Need-enum-told
-enum-told c = search needs
-
-farthest-requires : tie.Need-farthest-requires
-farthest-requires c κs = search needs
 
 text-symbols-requires : tie.Need-text-symbols-requires
 text-symbols-requires c κs =
@@ -43,12 +31,6 @@ ended-requires c κs =
     let f = far (a .at) (a .limit) (length (now (a .file))) (q .result) (q .ensures) (s .pre .0) in
     omega (arith, f .high, c .before .text-symbols .ensures .run .high)
 
-enum-known-end : tie.Need-enum-known-end
-enum-known-end c = search needs
-
-enum-told-2 : tie.Need-enum-told-2
-enum-told-2 c = search needs
-
 shared-slice-read-refused-number : tie.Need-shared-slice-read-refused-number
 shared-slice-read-refused-number c =
     let s = c .before .before .before .before .before .before .before .before .before .before .before in
@@ -61,9 +43,6 @@ shared-slice-read-refused-number c =
 
 sub-refused-number : tie.Need-sub-refused-number
 sub-refused-number c = omega (arith, c .before .before .before .before .before .text-symbols .ensures .run .low)
-
-refused-number-requires : tie.Need-refused-number-requires
-refused-number-requires c κs = search needs
 
 returns-2 : tie.Need-returns-2
 returns-2 c =
@@ -95,17 +74,6 @@ pub base64-line-spec : {M : Type 1} → statement M
 base64-line-spec =
     tie.close
     (tie.spec
-    closing-line-requires
-    enum-known-close
-    returns
-    enum-told
-    farthest-requires
-    text-symbols-requires
-    ended-requires
-    enum-known-end
-    enum-told-2
-    shared-slice-read-refused-number
-    sub-refused-number
-    refused-number-requires
-    returns-2
-    returns-3)
+    (λ c κs. search needs) (λ c. search needs) returns (λ c. search needs) (λ c κs. search needs)
+    text-symbols-requires ended-requires (λ c. search needs) (λ c. search needs)
+    shared-slice-read-refused-number sub-refused-number (λ c κs. search needs) returns-2 returns-3)

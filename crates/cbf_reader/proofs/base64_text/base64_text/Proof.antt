@@ -16,9 +16,6 @@ Inv-loop file at limit g₀ next₀ g next = Passed file at limit next g
 abbrev μ-loop : tie.MeasureT-loop
 μ-loop file at limit g₀ next₀ g next = length file - next
 
-no-groups-requires : tie.Need-no-groups-requires Inv-loop μ-loop
-no-groups-requires c κs = search needs
-
 loop-holds : tie.Need-loop-holds Inv-loop μ-loop
 loop-holds c =
     let s = c .before .before in
@@ -27,18 +24,12 @@ loop-holds c =
 base64-line-requires : tie.Need-base64-line-requires Inv-loop μ-loop
 base64-line-requires c κs = let l = c .before .loop .inv in (l .high, c .before .before .before .before .pre .1, l .few)
 
-enum-known-l : tie.Need-enum-known-l Inv-loop μ-loop
-enum-known-l c = search needs
-
 returns : tie.Need-returns Inv-loop μ-loop
 returns c =
     let l = c .before .before .before .before .before .loop in
     let a = c .before .before .before .before .before .before .before .before .args in
     let g = c .before .l .given in
     (passed-refused (now (a .file)) (a .at) (a .limit) (l .next) (l .g) (l .inv) (omega arith) (g .0 .0) (sym (g .1) ∙ c .before .before .before .base64-line .ensures .0), omega arith)
-
-enum-known-l-2 : tie.Need-enum-known-l-2 Inv-loop μ-loop
-enum-known-l-2 c = search needs
 
 returns-2 : tie.Need-returns-2 Inv-loop μ-loop
 returns-2 c =
@@ -47,9 +38,6 @@ returns-2 c =
     let a = s .args in
     let g = c .before .l2 .given in
     (passed-closing (now (a .file)) (a .at) (a .limit) (l .next) (l .g) (l .inv) (omega arith) (g .0 .0) (sym (g .1) ∙ c .before .before .before .base64-line .ensures .0), omega (arith, l .inv .few, l .inv .high, s .pre .1))
-
-enum-known-l-3 : tie.Need-enum-known-l-3 Inv-loop μ-loop
-enum-known-l-3 c = search needs
 
 loop-less : tie.Need-loop-less Inv-loop μ-loop
 loop-less c =
@@ -81,16 +69,5 @@ pub base64-text-spec : {M : Type 1} → statement M
 base64-text-spec =
     tie.close
     (tie.spec
-    Inv-loop
-    μ-loop
-    no-groups-requires
-    loop-holds
-    base64-line-requires
-    enum-known-l
-    returns
-    enum-known-l-2
-    returns-2
-    enum-known-l-3
-    loop-less
-    loop-again
-    returns-3)
+    Inv-loop μ-loop (λ c κs. search needs) loop-holds base64-line-requires (λ c. search needs) returns
+    (λ c. search needs) returns-2 (λ c. search needs) loop-less loop-again returns-3)

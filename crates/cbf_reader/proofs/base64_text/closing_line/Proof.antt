@@ -9,28 +9,13 @@ use Rattle.cbf_reader.proofs.Base64Laws.{closing-short, closing-other, 
 use Rattle.cbf_reader.proofs.base64_text.closing_line.Statement.{statement}
 use Rattle.cbf_reader.proofs.base64_text.closing_line.Tie as tie
 
-sub-if1 : tie.Need-sub-if1
-sub-if1 c = search needs
-
 returns : tie.Need-returns
 returns c = let s = c .before .before in closing-short (now (s .args .file)) (s .args .at) (s .pre) (c .if1 .taken)
-
-add-to : tie.Need-add-to
-add-to c = search needs
-
-slice-aggregate-is-word : tie.Need-slice-aggregate-is-word
-slice-aggregate-is-word c = search needs
-
-is-word-requires : tie.Need-is-word-requires
-is-word-requires c κs = search needs
 
 returns-2 : tie.Need-returns-2
 returns-2 c =
     let s = c .before .before .before .before .before in
     closing-other (now (s .args .file)) (s .args .at) (s .pre) (sym (c .before .is-word .ensures) ∙ not-true (c .before .is-word .result) (c .if2 .taken))
-
-ended-requires : tie.Need-ended-requires
-ended-requires c κs = search needs
 
 returns-3 : tie.Need-returns-3
 returns-3 c =
@@ -42,11 +27,5 @@ pub closing-line-spec : {M : Type 1} → statement M
 closing-line-spec =
     tie.close
     (tie.spec
-    sub-if1
-    returns
-    add-to
-    slice-aggregate-is-word
-    is-word-requires
-    returns-2
-    ended-requires
-    returns-3)
+    (λ c. search needs) returns (λ c. search needs) (λ c. search needs) (λ c κs. search needs) returns-2
+    (λ c κs. search needs) returns-3)

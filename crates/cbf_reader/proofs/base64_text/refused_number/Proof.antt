@@ -6,9 +6,6 @@ use native.Mathlib.Omega.{arith}
 use Rattle.cbf_reader.proofs.base64_text.refused_number.Statement.{statement}
 use Rattle.cbf_reader.proofs.base64_text.refused_number.Tie as tie
 
-textual-requires : tie.Need-textual-requires
-textual-requires c κs = search needs
-
 returns : tie.Need-returns
 returns c = rw (sym (c .before .textual .ensures) ∙ not-true (c .before .textual .result) (c .if1 .taken))
 
@@ -25,4 +22,4 @@ returns-3 c =
     rw (sym (t .ensures) ∙ not-false (t .result) (c .before .if1 .left), le-ltb (a .column) (a .limit) (omega arith))
 
 pub refused-number-spec : {M : Type 1} → statement M
-refused-number-spec = tie.close (tie.spec textual-requires returns returns-2 returns-3)
+refused-number-spec = tie.close (tie.spec (λ c κs. search needs) returns returns-2 returns-3)

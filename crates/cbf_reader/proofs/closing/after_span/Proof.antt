@@ -6,15 +6,6 @@ use Rattle.cbf_reader.proofs.ClosingLaws.{line-end-inside, after-span-m
 use Rattle.cbf_reader.proofs.closing.after_span.Statement.{statement}
 use Rattle.cbf_reader.proofs.closing.after_span.Tie as tie
 
-line-end-requires : tie.Need-line-end-requires
-line-end-requires c κs = search needs
-
-enum-told : tie.Need-enum-told
-enum-told c = search needs
-
-enum-known-end : tie.Need-enum-known-end
-enum-known-end c = search needs
-
 semicolon-line-requires : tie.Need-semicolon-line-requires
 semicolon-line-requires c κs =
     let s = c .before .before .before .before .before in
@@ -34,4 +25,5 @@ returns-2 c =
 pub after-span-spec : {M : Type 1} → statement M
 after-span-spec =
     tie.close
-    (tie.spec line-end-requires enum-told enum-known-end semicolon-line-requires returns returns-2)
+    (tie.spec
+    (λ c κs. search needs) (λ c. search needs) (λ c. search needs) semicolon-line-requires returns returns-2)

@@ -10,11 +10,8 @@ use Rattle.cbf_reader.proofs.closing.ended.Tie as tie
 returns : tie.Need-returns
 returns c = let a = c .before .before .args in ended-file (now (a .file)) (a .i) (omega arith)
 
-line-end-requires : tie.Need-line-end-requires
-line-end-requires c κs = search needs
-
 returns-2 : tie.Need-returns-2
 returns-2 c = let a = c .before .before .before .args in c .line-end .ensures ∙ ended-line (now (a .file)) (a .i) (omega arith)
 
 pub ended-spec : {M : Type 1} → statement M
-ended-spec = tie.close (tie.spec returns line-end-requires returns-2)
+ended-spec = tie.close (tie.spec returns (λ c κs. search needs) returns-2)

@@ -7,30 +7,15 @@ use Rattle.cbf_reader.proofs.ClosingLaws.{semicolon-past, no-semicolon,
 use Rattle.cbf_reader.proofs.closing.semicolon_line.Statement.{statement}
 use Rattle.cbf_reader.proofs.closing.semicolon_line.Tie as tie
 
-sub-if1 : tie.Need-sub-if1
-sub-if1 c = search needs
-
 returns : tie.Need-returns
 returns c =
     let a = c .before .before .args in
     semicolon-past (now (a .file)) (a .limit) (a .at) (omega arith)
 
-shared-slice-read-if2 : tie.Need-shared-slice-read-if2
-shared-slice-read-if2 c = search needs
-
 returns-2 : tie.Need-returns-2
 returns-2 c =
     let a = c .before .before .before .before .args in
     no-semicolon (now (a .file)) (a .limit) (a .at) (omega arith) (c .if2 .taken)
-
-add-after-blanks : tie.Need-add-after-blanks
-add-after-blanks c = search needs
-
-after-blanks-requires : tie.Need-after-blanks-requires
-after-blanks-requires c κs = search needs
-
-sub-if3 : tie.Need-sub-if3
-sub-if3 c = search needs
 
 returns-3 : tie.Need-returns-3
 returns-3 c =
@@ -42,9 +27,6 @@ returns-4 : tie.Need-returns-4
 returns-4 c =
     let a = c .before .before .before .before .before .before .before .args in
     semicolon-last (now (a .file)) (a .limit) (a .at) (omega arith) (c .before .before .before .if2 .left) (c .before .before .after-blanks .ensures) (c .if4 .taken) (omega arith)
-
-line-end-requires : tie.Need-line-end-requires
-line-end-requires c κs = search needs
 
 returns-5 : tie.Need-returns-5
 returns-5 c =
@@ -58,14 +40,5 @@ pub semicolon-line-spec : {M : Type 1} → statement M
 semicolon-line-spec =
     tie.close
     (tie.spec
-    sub-if1
-    returns
-    shared-slice-read-if2
-    returns-2
-    add-after-blanks
-    after-blanks-requires
-    sub-if3
-    returns-3
-    returns-4
-    line-end-requires
-    returns-5)
+    (λ c. search needs) returns (λ c. search needs) returns-2 (λ c. search needs) (λ c κs. search needs)
+    (λ c. search needs) returns-3 returns-4 (λ c κs. search needs) returns-5)

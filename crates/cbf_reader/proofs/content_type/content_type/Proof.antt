@@ -15,15 +15,6 @@ use Rattle.cbf_reader.proofs.PartLaws.{first-free, following, later-sta
 use Rattle.cbf_reader.proofs.content_type.content_type.Statement.{statement}
 use Rattle.cbf_reader.proofs.content_type.content_type.Tie as tie
 
-part-end-requires : tie.Need-part-end-requires
-part-end-requires c κs = search needs
-
-enum-told : tie.Need-enum-told
-enum-told c = search needs
-
-enum-known-first : tie.Need-enum-known-first
-enum-known-first c = search needs
-
 -- the first part ends at p
 ends : (c : tie.After-known-told) → PartAt (now (c .before .before .before .before .before .args .file)) (c .before .before .before .before .before .args .from) (c .before .before .before .before .before .args .to) (At (c .before .first .given .0 .0))
 ends c = subst (λ (r : PartEnd). PartAt (now (c .before .before .before .before .before .args .file)) (c .before .before .before .before .before .args .from) (c .before .before .before .before .before .args .to) r) (c .before .first .given .1) (c .before .before .before .part-end .ensures)
@@ -49,4 +40,5 @@ returns-2 c =
 pub content-type-spec : {M : Type 1} → statement M
 content-type-spec =
     tie.close
-    (tie.spec part-end-requires enum-told enum-known-first later-parts-requires returns returns-2)
+    (tie.spec
+    (λ c κs. search needs) (λ c. search needs) (λ c. search needs) later-parts-requires returns returns-2)

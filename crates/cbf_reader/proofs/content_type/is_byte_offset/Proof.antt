@@ -17,21 +17,6 @@ use Rattle.cbf_reader.proofs.content_type.is_byte_offset.Tie as tie
 abbrev word : List ℕ
 word = bytes "x-cbf_byte_offset"
 
-trimmed-requires : tie.Need-trimmed-requires
-trimmed-requires c κs = search needs
-
-unquoted-requires : tie.Need-unquoted-requires
-unquoted-requires c κs = search needs
-
-enum-told : tie.Need-enum-told
-enum-told c = search needs
-
-enum-known-inner : tie.Need-enum-known-inner
-enum-known-inner c = search needs
-
-slice-aggregate-is-value : tie.Need-slice-aggregate-is-value
-slice-aggregate-is-value c = search needs
-
 is-value-requires : tie.Need-is-value-requires
 is-value-requires c κs =
     let u = rw (c .before .before .inner .given .1) at (c .before .before .before .before .unquoted .ensures) in
@@ -56,11 +41,5 @@ pub is-byte-offset-spec : {M : Type 1} → statement M
 is-byte-offset-spec =
     tie.close
     (tie.spec
-    trimmed-requires
-    unquoted-requires
-    enum-told
-    enum-known-inner
-    slice-aggregate-is-value
-    is-value-requires
-    returns
-    returns-2)
+    (λ c κs. search needs) (λ c κs. search needs) (λ c. search needs) (λ c. search needs) (λ c. search needs)
+    is-value-requires returns returns-2)

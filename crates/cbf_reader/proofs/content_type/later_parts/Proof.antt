@@ -24,14 +24,8 @@ abbrev μ-loop : tie.MeasureT-loop
 loop-holds : tie.Need-loop-holds Inv-loop μ-loop
 loop-holds c = (omega arith, omega arith, later-start (now (c .before .args .file)) (c .before .args .from) (c .before .args .to))
 
-add-part-end : tie.Need-add-part-end Inv-loop μ-loop
-add-part-end c = omega arith
-
 part-end-requires : tie.Need-part-end-requires Inv-loop μ-loop
 part-end-requires c κs = (omega arith, omega arith)
-
-enum-told : tie.Need-enum-told Inv-loop μ-loop
-enum-told c = search needs
 
 returns : tie.Need-returns Inv-loop μ-loop
 returns c =
@@ -41,15 +35,9 @@ returns c =
     let e = subst (λ (r : PartEnd). PartAt f (l .at + 1) (a .to) r) (c .enum-told .given .1) (c .before .before .part-end .ensures) in
     sym (ap wholeOf (l .inv .2 ∙ ap (saidBy (l .found)) (following-here f (l .at) (a .to) (c .before .before .before .loop-test .taken) ∙ e)))
 
-enum-known-end : tie.Need-enum-known-end Inv-loop μ-loop
-enum-known-end c = search needs
-
 -- the part that ends at p
 ends : (c : tie.After-known-told Inv-loop μ-loop) → PartAt (now (c .before .before .before .before .before .before .before .args .file)) (c .before .before .before .before .before .loop .at + 1) (c .before .before .before .before .before .before .before .args .to) (At (c .before .end .given .0 .0))
 ends c = subst (λ (r : PartEnd). PartAt (now (c .before .before .before .before .before .before .before .args .file)) (c .before .before .before .before .before .loop .at + 1) (c .before .before .before .before .before .before .before .args .to) r) (c .before .end .given .1) (c .before .before .before .part-end .ensures)
-
-add-with-part : tie.Need-add-with-part Inv-loop μ-loop
-add-with-part c = omega arith
 
 with-part-requires : tie.Need-with-part-requires Inv-loop μ-loop
 with-part-requires c κs = let e = ends c in (e .1, omega (arith, e .2))
@@ -72,15 +60,6 @@ loop-again c =
           ∙ ap (λ (d : Conversion). saidBy d (following f p (a .to))) (sym (c .with-part .ensures)),
     )
 
-enum-told-2 : tie.Need-enum-told-2 Inv-loop μ-loop
-enum-told-2 c = search needs
-
-enum-told-3 : tie.Need-enum-told-3 Inv-loop μ-loop
-enum-told-3 c = search needs
-
-enum-told-4 : tie.Need-enum-told-4 Inv-loop μ-loop
-enum-told-4 c = search needs
-
 -- no part is left
 over : (c : tie.After-loop Inv-loop μ-loop) → laterParts (now (c .before .before .before .args .file)) (c .before .before .before .args .from) (c .before .before .before .args .to) ≡ saidBy (c .before .loop .found) (some [])
 over c =
@@ -101,21 +80,6 @@ pub later-parts-spec : {M : Type 1} → statement M
 later-parts-spec =
     tie.close
     (tie.spec
-    Inv-loop
-    μ-loop
-    loop-holds
-    add-part-end
-    part-end-requires
-    enum-told
-    returns
-    enum-known-end
-    add-with-part
-    with-part-requires
-    loop-less
-    loop-again
-    enum-told-2
-    enum-told-3
-    enum-told-4
-    returns-2
-    returns-3
-    returns-4)
+    Inv-loop μ-loop loop-holds (λ c. omega arith) part-end-requires (λ c. search needs) returns
+    (λ c. search needs) (λ c. omega arith) with-part-requires loop-less loop-again (λ c. search needs)
+    (λ c. search needs) (λ c. search needs) returns-2 returns-3 returns-4)

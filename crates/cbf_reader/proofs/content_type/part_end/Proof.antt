@@ -22,9 +22,6 @@ abbrev μ-loop : tie.MeasureT-loop
 loop-holds : tie.Need-loop-holds Inv-loop μ-loop
 loop-holds c = (omega arith, omega arith, begun-start (now (c .args .file)) (c .args .at))
 
-shared-slice-read-b : tie.Need-shared-slice-read-b Inv-loop μ-loop
-shared-slice-read-b c = omega arith
-
 returns : tie.Need-returns Inv-loop μ-loop
 returns c =
     let a = c .before .before .before .before .before .before .args in
@@ -32,12 +29,6 @@ returns c =
     let closed : l .quoted ≡ false =
     ⊎-elim (λ w. absurd (omega (arith, w .0 .taken, c .before .if2 .taken))) (λ w. sym (w .1) ∙ not-true _ (c .if3 .taken)) (c .before .before .if1 .came) in
     (part-ends (now (a .file)) (a .at) (l .i) (l .quoted) (l .inv .0) (l .inv .2) (a .to) (omega arith) (omega arith) closed (c .before .if2 .taken), l .inv .0, l .inv .1)
-
-add-i : tie.Need-add-i Inv-loop μ-loop
-add-i c = omega arith
-
-loop-less : tie.Need-loop-less Inv-loop μ-loop
-loop-less c = omega arith
 
 loop-again : tie.Need-loop-again Inv-loop μ-loop
 loop-again c =
@@ -73,13 +64,5 @@ pub part-end-spec : {M : Type 1} → statement M
 part-end-spec =
     tie.close
     (tie.spec
-    Inv-loop
-    μ-loop
-    loop-holds
-    shared-slice-read-b
-    returns
-    add-i
-    loop-less
-    loop-again
-    returns-2
-    returns-3)
+    Inv-loop μ-loop loop-holds (λ c. omega arith) returns (λ c. omega arith) (λ c. omega arith) loop-again
+    returns-2 returns-3)

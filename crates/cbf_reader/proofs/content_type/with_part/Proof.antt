@@ -20,18 +20,6 @@ use Rattle.cbf_reader.proofs.content_type.with_part.Tie as tie
 abbrev part : tie.Start → List ℕ
 part s = joined (slice (s .args .from) (s .args .to) (now (s .args .file)))
 
-equals-requires : tie.Need-equals-requires
-equals-requires c κs = search needs
-
-trimmed-requires : tie.Need-trimmed-requires
-trimmed-requires c κs = search needs
-
-slice-aggregate-is-value : tie.Need-slice-aggregate-is-value
-slice-aggregate-is-value c = search needs
-
-is-value-requires : tie.Need-is-value-requires
-is-value-requires c κs = search needs
-
 returns : tie.Need-returns
 returns c =
     let a = c .before .before .before .before .before .before .args in
@@ -46,26 +34,11 @@ named c d e =
     with-named (now (a .file)) (a .from) (a .to) (m .result) (omega arith) (m .ensures) (a .found) _ (c .before .is-value .result) (c .before .before .before .trimmed .ensures .0) (c .before .is-value .ensures) (not-false _ (c .if1 .left))
     ∙ ap (λ (f : Conversion). given f (offset (after 61 (part (c .before .before .before .before .before .before))))) e
 
-enum-told : tie.Need-enum-told
-enum-told c = search needs
-
-enum-told-2 : tie.Need-enum-told-2
-enum-told-2 c = search needs
-
-enum-told-3 : tie.Need-enum-told-3
-enum-told-3 c = search needs
-
 returns-2 : tie.Need-returns-2
 returns-2 c =
     let a = c .before .before .before .before .before .before .before .before .before .args in
     let m = c .before .before .before .before .before .before .before .equals in
     sym (named (c .before .before .before) Unseen (c .before .enum-told3 .given .1) ∙ given-none (now (a .file)) (a .from) (a .to) (m .result) (omega arith) (m .ensures) (c .if2 .taken))
-
-add-is-byte-offset : tie.Need-add-is-byte-offset
-add-is-byte-offset c = search needs
-
-is-byte-offset-requires : tie.Need-is-byte-offset-requires
-is-byte-offset-requires c κs = search needs
 
 -- and it has a value
 valued : (c : tie.After-is-byte-offset) → withPart (c .before .before .before .before .before .before .before .before .before .before .args .found) (part (c .before .before .before .before .before .before .before .before .before .before)) ≡ cond (c .is-byte-offset .result) Seen Wrong
@@ -92,18 +65,6 @@ pub with-part-spec : {M : Type 1} → statement M
 with-part-spec =
     tie.close
     (tie.spec
-    equals-requires
-    trimmed-requires
-    slice-aggregate-is-value
-    is-value-requires
-    returns
-    enum-told
-    enum-told-2
-    enum-told-3
-    returns-2
-    add-is-byte-offset
-    is-byte-offset-requires
-    returns-3
-    returns-4
-    returns-5
-    returns-6)
+    (λ c κs. search needs) (λ c κs. search needs) (λ c. search needs) (λ c κs. search needs) returns
+    (λ c. search needs) (λ c. search needs) (λ c. search needs) returns-2 (λ c. search needs)
+    (λ c κs. search needs) returns-3 returns-4 returns-5 returns-6)

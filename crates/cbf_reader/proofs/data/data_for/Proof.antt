@@ -18,4 +18,7 @@ returns-2 c =
     by-text (a .limit) (a .size) (a .at) (drop (a .at) (now (a .file))) (a .encoding) (sym (c .before .if1 .left) ∙ c .before .before .is-text .ensures) (c .binary-data .ensures)
 
 pub data-for-spec : {M : Type 1} → statement M
-data-for-spec = tie.close (tie.spec (λ c κs. search needs) (λ c κs. search needs) returns (λ c κs. search needs) returns-2)
+data-for-spec =
+    tie.close
+    (tie.spec
+    (λ c κs. search needs) (λ c κs. search needs) returns (λ c κs. search needs) returns-2)

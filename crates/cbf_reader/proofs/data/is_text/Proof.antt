@@ -3,11 +3,8 @@ use borrow.Author.Needs.{needs}
 use Rattle.cbf_reader.proofs.data.is_text.Statement.{statement}
 use Rattle.cbf_reader.proofs.data.is_text.Tie as tie
 
-returns : tie.Need-returns
-returns c = search needs
-
-returns-2 : tie.Need-returns-2
-returns-2 c = search needs
-
 pub is-text-spec : {M : Type 1} → statement M
-is-text-spec = tie.close (tie.spec (λ c. search needs) (λ c. search needs) returns returns-2)
+is-text-spec =
+    tie.close
+    (tie.spec
+    (λ c. search needs) (λ c. search needs) (λ c. search needs) (λ c. search needs))

@@ -6,11 +6,8 @@ use Rattle.cbf_reader.proofs.DescriptionLaws.{positive}
 use Rattle.cbf_reader.proofs.describe.compression.Statement.{statement}
 use Rattle.cbf_reader.proofs.describe.compression.Tie as tie
 
-returns : tie.Need-returns
-returns c = search needs
-
 returns-2 : tie.Need-returns-2
 returns-2 c = sym (ap compressionOf (positive (c .if1 .left)))
 
 pub compression-spec : {M : Type 1} → statement M
-compression-spec = tie.close (tie.spec returns returns-2)
+compression-spec = tie.close (tie.spec (λ c. search needs) returns-2)

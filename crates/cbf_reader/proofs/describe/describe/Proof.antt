@@ -7,35 +7,17 @@ use Rattle.cbf_reader.proofs.DescriptionLaws.{absent, there, found-at}
 use Rattle.cbf_reader.proofs.describe.describe.Statement.{statement}
 use Rattle.cbf_reader.proofs.describe.describe.Tie as tie
 
-array-read-needed-encoding : tie.Need-array-read-needed-encoding
-array-read-needed-encoding c = search needs
-
 returns : tie.Need-returns
 unfolding foundOf describedBy
 returns c fs e = rw (absent (look 0 fs) (found-at fs 0 e) (c .if1 .taken))
-
-array-read-needed-size : tie.Need-array-read-needed-size
-array-read-needed-size c = search needs
 
 returns-2 : tie.Need-returns-2
 unfolding foundOf describedBy
 returns-2 c fs e = rw (there (look 0 fs) (found-at fs 0 e) (c .before .if1 .left), absent (look 1 fs) (found-at fs 1 e) (c .if2 .taken))
 
-array-read-needed-elements : tie.Need-array-read-needed-elements
-array-read-needed-elements c = search needs
-
 returns-3 : tie.Need-returns-3
 unfolding foundOf describedBy
 returns-3 c fs e = rw (there (look 0 fs) (found-at fs 0 e) (c .before .before .if1 .left), there (look 1 fs) (found-at fs 1 e) (c .before .if2 .left), absent (look 2 fs) (found-at fs 2 e) (c .if3 .taken))
-
-sub-description-of : tie.Need-sub-description-of
-sub-description-of c = search needs
-
-sub-description-of-2 : tie.Need-sub-description-of-2
-sub-description-of-2 c = search needs
-
-sub-description-of-3 : tie.Need-sub-description-of-3
-sub-description-of-3 c = search needs
 
 description-of-requires : tie.Need-description-of-requires
 description-of-requires c κs = (c .before .before .before .pre, omega (arith, c .before .before .before .pre .most 1), omega (arith, c .before .before .before .pre .most 2))
@@ -48,14 +30,5 @@ pub describe-spec : {M : Type 1} → statement M
 describe-spec =
     tie.close
     (tie.spec
-    array-read-needed-encoding
-    returns
-    array-read-needed-size
-    returns-2
-    array-read-needed-elements
-    returns-3
-    sub-description-of
-    sub-description-of-2
-    sub-description-of-3
-    description-of-requires
-    returns-4)
+    (λ c. search needs) returns (λ c. search needs) returns-2 (λ c. search needs) returns-3
+    (λ c. search needs) (λ c. search needs) (λ c. search needs) description-of-requires returns-4)

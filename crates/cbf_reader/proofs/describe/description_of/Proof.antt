@@ -13,48 +13,6 @@ use Rattle.cbf_reader.proofs.DescriptionLaws.{absent, there, or-zero, d
 use Rattle.cbf_reader.proofs.describe.description_of.Statement.{statement}
 use Rattle.cbf_reader.proofs.describe.description_of.Tie as tie
 
-array-read-if1 : tie.Need-array-read-if1
-array-read-if1 c = search needs
-
-array-read-kind-number : tie.Need-array-read-kind-number
-array-read-kind-number c = search needs
-
-sub-kind-number : tie.Need-sub-kind-number
-sub-kind-number c = search needs
-
-array-read-given : tie.Need-array-read-given
-array-read-given c = search needs
-
-given-requires : tie.Need-given-requires
-given-requires c κs = search needs
-
-compression-requires : tie.Need-compression-requires
-compression-requires c κs = search needs
-
-element-type-requires : tie.Need-element-type-requires
-element-type-requires c κs = search needs
-
-array-read-given-2 : tie.Need-array-read-given-2
-array-read-given-2 c = search needs
-
-given-requires-2 : tie.Need-given-requires-2
-given-requires-2 c κs = search needs
-
-array-read-given-3 : tie.Need-array-read-given-3
-array-read-given-3 c = search needs
-
-given-requires-3 : tie.Need-given-requires-3
-given-requires-3 c κs = search needs
-
-array-read-given-4 : tie.Need-array-read-given-4
-array-read-given-4 c = search needs
-
-given-requires-4 : tie.Need-given-requires-4
-given-requires-4 c κs = search needs
-
-size-agrees-requires : tie.Need-size-agrees-requires
-size-agrees-requires c κs = search needs
-
 -- the number of the element type, "Absent: unsigned 32-bit integer"
 type-number : (c : tie.Joined1) (fs : List (ℕ × ℕ)) → c .before .args .t1 ≡ foundOf fs → c .if1 .kind-number ≡ Option·getD (look 4 fs) 5
 unfolding foundOf
@@ -85,15 +43,6 @@ dimensions-agree-requires c κs = omega (arith, c .before .before .before .befor
 returns-2 : tie.Need-returns-2
 returns-2 c fs e = dimensions-disagree (says (c .before .before .before .before) fs e) (sym (c .before .before .before .size-agrees .ensures) ∙ not-false _ (c .before .before .if2 .left)) (sym (c .before .dimensions-agree .ensures) ∙ not-true _ (c .if3 .taken))
 
-encoding-of-requires : tie.Need-encoding-of-requires
-encoding-of-requires c κs = search needs
-
-array-read-given-5 : tie.Need-array-read-given-5
-array-read-given-5 c = search needs
-
-given-requires-5 : tie.Need-given-requires-5
-given-requires-5 c κs = search needs
-
 returns-3 : tie.Need-returns-3
 unfolding foundOf
 returns-3 c fs e = agree (says (c .before .before .before .before .before .before) fs e) (sym (c .before .before .before .before .before .size-agrees .ensures) ∙ not-false _ (c .before .before .before .before .if2 .left)) (sym (c .before .before .before .dimensions-agree .ensures) ∙ not-false _ (c .before .before .if3 .left)) (c .before .encoding-of .ensures) (c .given5 .ensures ∙ or-zero (look 6 fs) (found-at fs 6 e))
@@ -102,24 +51,8 @@ pub description-of-spec : {M : Type 1} → statement M
 description-of-spec =
     tie.close
     (tie.spec
-    array-read-if1
-    array-read-kind-number
-    sub-kind-number
-    array-read-given
-    given-requires
-    compression-requires
-    element-type-requires
-    array-read-given-2
-    given-requires-2
-    array-read-given-3
-    given-requires-3
-    array-read-given-4
-    given-requires-4
-    size-agrees-requires
-    returns
-    dimensions-agree-requires
-    returns-2
-    encoding-of-requires
-    array-read-given-5
-    given-requires-5
-    returns-3)
+    (λ c. search needs) (λ c. search needs) (λ c. search needs) (λ c. search needs) (λ c κs. search needs)
+    (λ c κs. search needs) (λ c κs. search needs) (λ c. search needs) (λ c κs. search needs)
+    (λ c. search needs) (λ c κs. search needs) (λ c. search needs) (λ c κs. search needs)
+    (λ c κs. search needs) returns dimensions-agree-requires returns-2 (λ c κs. search needs)
+    (λ c. search needs) (λ c κs. search needs) returns-3)

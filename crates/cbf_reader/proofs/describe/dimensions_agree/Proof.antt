@@ -36,12 +36,4 @@ pub dimensions-agree-spec : {M : Type 1} → statement M
 dimensions-agree-spec =
     tie.close
     (tie.spec
-    returns
-    returns-2
-    returns-3
-    returns-4
-    mul-area
-    returns-5
-    returns-6
-    mul-result
-    returns-7)
+    returns returns-2 returns-3 returns-4 mul-area returns-5 returns-6 mul-result returns-7)

@@ -6,11 +6,8 @@ use Rattle.cbf_reader.proofs.DescriptionLaws.{positive}
 use Rattle.cbf_reader.proofs.describe.encoding_of.Statement.{statement}
 use Rattle.cbf_reader.proofs.describe.encoding_of.Tie as tie
 
-returns : tie.Need-returns
-returns c = search needs
-
 returns-2 : tie.Need-returns-2
 returns-2 c = sym (ap encodingOf (positive (c .if1 .left)))
 
 pub encoding-of-spec : {M : Type 1} → statement M
-encoding-of-spec = tie.close (tie.spec returns returns-2)
+encoding-of-spec = tie.close (tie.spec (λ c. search needs) returns-2)

@@ -6,23 +6,11 @@ use Rattle.cbf_reader.proofs.DescriptionLaws.{product-fits}
 use Rattle.cbf_reader.proofs.describe.size_agrees.Statement.{statement}
 use Rattle.cbf_reader.proofs.describe.size_agrees.Tie as tie
 
-enum-told : tie.Need-enum-told
-enum-told c = search needs
-
-octets-per-requires : tie.Need-octets-per-requires
-octets-per-requires c κs = search needs
-
 mul-result : tie.Need-mul-result
 mul-result c = product-fits (c .before .before .before .pre .1) (c .octets-per .ensures .1) (omega arith)
 
-enum-told-2 : tie.Need-enum-told-2
-enum-told-2 c = search needs
-
 returns : tie.Need-returns
 returns c = rw (c .before .enum-told2 .given .1, lt-leb _ _ (c .if1 .taken))
-
-mul-result-2 : tie.Need-mul-result-2
-mul-result-2 c = search needs
 
 returns-2 : tie.Need-returns-2
 returns-2 c = rw (c .before .enum-told .given .1, c .octets-per .ensures .0)
@@ -34,11 +22,5 @@ pub size-agrees-spec : {M : Type 1} → statement M
 size-agrees-spec =
     tie.close
     (tie.spec
-    enum-told
-    octets-per-requires
-    mul-result
-    enum-told-2
-    returns
-    mul-result-2
-    returns-2
-    returns-3)
+    (λ c. search needs) (λ c κs. search needs) mul-result (λ c. search needs) returns (λ c. search needs)
+    returns-2 returns-3)

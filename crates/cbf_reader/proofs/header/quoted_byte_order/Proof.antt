@@ -3,15 +3,6 @@ use borrow.Author.Needs.{needs}
 use Rattle.cbf_reader.proofs.header.quoted_byte_order.Statement.{statement}
 use Rattle.cbf_reader.proofs.header.quoted_byte_order.Tie as tie
 
-unquoted-requires : tie.Need-unquoted-requires
-unquoted-requires c κs = search needs
-
-enum-told : tie.Need-enum-told
-enum-told c = search needs
-
-enum-known-inner : tie.Need-enum-known-inner
-enum-known-inner c = search needs
-
 byte-order-requires : tie.Need-byte-order-requires
 byte-order-requires c κs =
     let u = rw (c .before .inner .given .1) at (c .before .before .before .unquoted .ensures) in
@@ -26,4 +17,7 @@ returns-2 c =
     rw (u .0) (c .byte-order .ensures)
 
 pub quoted-byte-order-spec : {M : Type 1} → statement M
-quoted-byte-order-spec = tie.close (tie.spec unquoted-requires enum-told enum-known-inner byte-order-requires returns returns-2)
+quoted-byte-order-spec =
+    tie.close
+    (tie.spec
+    (λ c κs. search needs) (λ c. search needs) (λ c. search needs) byte-order-requires returns returns-2)

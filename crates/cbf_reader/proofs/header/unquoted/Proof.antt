@@ -16,16 +16,10 @@ filled s e = omega (arith, s .pre .order)
 returns : tie.Need-returns
 returns c = (unquoted-empty (c .before .pre) (c .if1 .taken), omega arith, c .before .pre .order, omega arith)
 
-shared-slice-read-if2 : tie.Need-shared-slice-read-if2
-shared-slice-read-if2 c = search needs
-
 returns-2 : tie.Need-returns-2
 returns-2 c =
     let s = c .before .before .before in
     (unquoted-whole (s .pre) (filled s (c .before .before .if1 .left)) (c .if2 .taken), omega arith, s .pre .order, omega arith)
-
-sub-if3 : tie.Need-sub-if3
-sub-if3 c = search needs
 
 returns-3 : tie.Need-returns-3
 returns-3 c =
@@ -33,23 +27,11 @@ returns-3 c =
     let h : Filled s = filled s (c .before .before .before .if1 .left) in
     unquoted-one (s .pre) h (c .before .if2 .left) (omega (arith, c .if3 .taken))
 
-sub-if4 : tie.Need-sub-if4
-sub-if4 c = search needs
-
-shared-slice-read-if4 : tie.Need-shared-slice-read-if4
-shared-slice-read-if4 c = search needs
-
 returns-4 : tie.Need-returns-4
 returns-4 c =
     let s = c .before .before .before .before .before .before in
     let h : Filled s = filled s (c .before .before .before .before .before .if1 .left) in
     unquoted-open (s .pre) h (c .before .before .before .if2 .left) (omega (arith, c .before .before .if3 .left)) (c .if4 .taken)
-
-add-t7 : tie.Need-add-t7
-add-t7 c = search needs
-
-sub-t9 : tie.Need-sub-t9
-sub-t9 c = search needs
 
 returns-5 : tie.Need-returns-5
 returns-5 c =
@@ -62,14 +44,5 @@ pub unquoted-spec : {M : Type 1} → statement M
 unquoted-spec =
     tie.close
     (tie.spec
-    returns
-    shared-slice-read-if2
-    returns-2
-    sub-if3
-    returns-3
-    sub-if4
-    shared-slice-read-if4
-    returns-4
-    add-t7
-    sub-t9
-    returns-5)
+    returns (λ c. search needs) returns-2 (λ c. search needs) returns-3 (λ c. search needs)
+    (λ c. search needs) returns-4 (λ c. search needs) (λ c. search needs) returns-5)

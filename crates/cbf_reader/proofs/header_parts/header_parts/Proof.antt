@@ -38,9 +38,6 @@ loop-holds c h =
 shared-slice-read-blank : tie.Need-shared-slice-read-blank Inv-loop μ-loop
 shared-slice-read-blank c = let e = ends (c .before .before .before .before .before .before .before) in omega arith
 
-blank-requires : tie.Need-blank-requires Inv-loop μ-loop
-blank-requires c κs = search needs
-
 returns : tie.Need-returns Inv-loop μ-loop
 returns c h =
     let s = c .before .before .before .before .before .before .before .before .before in
@@ -79,17 +76,5 @@ pub header-parts-spec : {M : Type 1} → statement M
 header-parts-spec =
     tie.close
     (tie.spec
-    Inv-loop
-    μ-loop
-    after-requires
-    after-text-requires
-    after-end-requires
-    loop-holds
-    shared-slice-read-blank
-    blank-requires
-    returns
-    after-text-requires-2
-    after-end-requires-2
-    loop-less
-    loop-again
-    returns-2)
+    Inv-loop μ-loop after-requires after-text-requires after-end-requires loop-holds shared-slice-read-blank
+    (λ c κs. search needs) returns after-text-requires-2 after-end-requires-2 loop-less loop-again returns-2)

@@ -22,18 +22,12 @@ loop-holds c =
 header-line-requires : tie.Need-header-line-requires Inv-loop μ-loop
 header-line-requires c κs = c .before .loop .inv .high
 
-enum-known-l : tie.Need-enum-known-l Inv-loop μ-loop
-enum-known-l c = search needs
-
 returns : tie.Need-returns Inv-loop μ-loop
 returns c =
     let l = c .before .before .before .before .before .loop in
     let a = c .before .before .before .before .before .before .before .args in
     let g = c .before .l .given in
     passed-refused (now (a .file)) (a .at) (a .limit) (l .next) (l .first) (l .inv) (omega arith) (g .0 .0) (g .1) (c .before .before .before .header-line .ensures)
-
-enum-known-l-2 : tie.Need-enum-known-l-2 Inv-loop μ-loop
-enum-known-l-2 c = search needs
 
 returns-2 : tie.Need-returns-2 Inv-loop μ-loop
 returns-2 c =
@@ -70,14 +64,5 @@ pub header-end-spec : {M : Type 1} → statement M
 header-end-spec =
     tie.close
     (tie.spec
-    Inv-loop
-    μ-loop
-    loop-holds
-    header-line-requires
-    enum-known-l
-    returns
-    enum-known-l-2
-    returns-2
-    loop-less
-    loop-again
-    returns-3)
+    Inv-loop μ-loop loop-holds header-line-requires (λ c. search needs) returns (λ c. search needs) returns-2
+    loop-less loop-again returns-3)

@@ -38,12 +38,6 @@ header-parts-requires c κs = (headers-at c, c .loop-test .taken)
 known-requires : tie.Need-known-requires Inv-loop μ-loop
 known-requires c κs = (parts-at c .name-in, omega (arith, parts-at c .value-in, parts-at c .to-in, parts-at c .next-in, inside (c .before)))
 
-mul-if2 : tie.Need-mul-if2 Inv-loop μ-loop
-mul-if2 c = search needs
-
-array-read-if2 : tie.Need-array-read-if2 Inv-loop μ-loop
-array-read-if2 c = search needs
-
 returns : tie.Need-returns Inv-loop μ-loop
 returns c = (judging-repeated (c .before .before .before .before .before .loop .inv) (c .before .before .before .header-parts .ensures) (c .before .before .known .ensures) (c .before .if1 .taken) (c .if2 .taken), c .before .before .before .before .before .loop .inv .range)
 
@@ -53,23 +47,11 @@ add-known-value c = omega (arith, parts-at (c .before .before .before) .value-in
 known-value-requires : tie.Need-known-value-requires Inv-loop μ-loop
 known-value-requires c κs = let p = parts-at (c .before .before .before) in (p .value-in, omega (arith, p .to-in, p .next-in, inside (c .before .before .before .before)), c .before .if1 .taken)
 
-enum-told : tie.Need-enum-told Inv-loop μ-loop
-enum-told c = search needs
-
 returns-2 : tie.Need-returns-2 Inv-loop μ-loop
 returns-2 c = (judging-bad (c .before .before .before .before .before .before .before .before .loop .inv) (c .before .before .before .before .before .before .header-parts .ensures) (c .before .before .before .before .before .known .ensures) (c .before .before .before .before .if1 .taken) (c .before .before .before .if2 .left) (c .before .before .known-value .ensures .0) (c .enum-told .given .1), c .before .before .before .before .before .before .before .before .loop .inv .range)
 
-enum-known-v : tie.Need-enum-known-v Inv-loop μ-loop
-enum-known-v c = search needs
-
 add-values : tie.Need-add-values Inv-loop μ-loop
 add-values c = omega (arith, number-range (c .before .before .before .before .before .before .known .result) (c .before .v .given .1) (c .before .before .before .known-value .ensures .1) .0)
-
-mul-values : tie.Need-mul-values Inv-loop μ-loop
-mul-values c = search needs
-
-array-write-values : tie.Need-array-write-values Inv-loop μ-loop
-array-write-values c = search needs
 
 loop-less : tie.Need-loop-less Inv-loop μ-loop
 loop-less c = let p = parts-at (c .before .before .before .before .before .before .before) in omega (arith, p .name-in, p .value-in, p .to-in, c .before .before .before .before .before .before .before .before .loop-test .taken)
@@ -90,24 +72,6 @@ pub judge-headers-spec : {M : Type 1} → statement M
 judge-headers-spec =
     tie.close
     (tie.spec
-    Inv-loop
-    μ-loop
-    loop-holds
-    header-parts-requires
-    known-requires
-    mul-if2
-    array-read-if2
-    returns
-    add-known-value
-    known-value-requires
-    enum-told
-    returns-2
-    enum-known-v
-    add-values
-    mul-values
-    array-write-values
-    loop-less
-    loop-again
-    loop-less-2
-    loop-again-2
-    returns-3)
+    Inv-loop μ-loop loop-holds header-parts-requires known-requires (λ c. search needs) (λ c. search needs)
+    returns add-known-value known-value-requires (λ c. search needs) returns-2 (λ c. search needs) add-values
+    (λ c. search needs) (λ c. search needs) loop-less loop-again loop-less-2 loop-again-2 returns-3)

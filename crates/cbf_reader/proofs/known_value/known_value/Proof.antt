@@ -4,33 +4,6 @@ use Rattle.cbf_reader.proofs.KnownLaws.{answered, answered-dimension, a
 use Rattle.cbf_reader.proofs.known_value.known_value.Statement.{statement}
 use Rattle.cbf_reader.proofs.known_value.known_value.Tie as tie
 
-trimmed-requires : tie.Need-trimmed-requires
-trimmed-requires c κs = search needs
-
-encoding-requires : tie.Need-encoding-requires
-encoding-requires c κs = search needs
-
-number-requires : tie.Need-number-requires
-number-requires c κs = search needs
-
-number-requires-2 : tie.Need-number-requires-2
-number-requires-2 c κs = search needs
-
-content-type-requires : tie.Need-content-type-requires
-content-type-requires c κs = search needs
-
-quoted-element-type-requires : tie.Need-quoted-element-type-requires
-quoted-element-type-requires c κs = search needs
-
-quoted-byte-order-requires : tie.Need-quoted-byte-order-requires
-quoted-byte-order-requires c κs = search needs
-
-number-requires-3 : tie.Need-number-requires-3
-number-requires-3 c κs = search needs
-
-number-requires-4 : tie.Need-number-requires-4
-number-requires-4 c κs = search needs
-
 returns : tie.Need-returns
 returns c = answered 0 (c .before .match .keys1) (c .before .before .trimmed .ensures .0) (c .encoding .ensures)
 
@@ -60,20 +33,6 @@ pub known-value-spec : {M : Type 1} → statement M
 known-value-spec =
     tie.close
     (tie.spec
-    trimmed-requires
-    encoding-requires
-    number-requires
-    number-requires-2
-    content-type-requires
-    quoted-element-type-requires
-    quoted-byte-order-requires
-    number-requires-3
-    number-requires-4
-    returns
-    returns-2
-    returns-3
-    returns-4
-    returns-5
-    returns-6
-    returns-7
-    returns-8)
+    (λ c κs. search needs) (λ c κs. search needs) (λ c κs. search needs) (λ c κs. search needs)
+    (λ c κs. search needs) (λ c κs. search needs) (λ c κs. search needs) (λ c κs. search needs)
+    (λ c κs. search needs) returns returns-2 returns-3 returns-4 returns-5 returns-6 returns-7 returns-8)

@@ -9,21 +9,12 @@ use borrow.Author.Needs.{needs}
 use Rattle.cbf_reader.proofs.line.after_end.Statement.{statement}
 use Rattle.cbf_reader.proofs.line.after_end.Tie as tie
 
-shared-slice-read-if1 : tie.Need-shared-slice-read-if1
-shared-slice-read-if1 c = search needs
-
-after-return-requires : tie.Need-after-return-requires
-after-return-requires c κs = search needs
-
 returns : tie.Need-returns
 returns c =
     let a = c .before .before .before .before .args in
     let file = now (a .file) in
     let e = c .after-return .ensures in
     (e .0 ∙ sym (end-13 file (a .i) (omega arith) (c .before .if1 .taken)), omega (arith, e .0, end-moves (hd (drop (a .i + 1) file))), e .1)
-
-add-result : tie.Need-add-result
-add-result c = search needs
 
 returns-2 : tie.Need-returns-2
 returns-2 c =
@@ -32,4 +23,6 @@ returns-2 c =
 
 pub after-end-spec : {M : Type 1} → statement M
 after-end-spec =
-    tie.close (tie.spec shared-slice-read-if1 after-return-requires returns add-result returns-2)
+    tie.close
+    (tie.spec
+    (λ c. search needs) (λ c κs. search needs) returns (λ c. search needs) returns-2)

@@ -8,26 +8,11 @@ use borrow.Author.Needs.{needs}
 use Rattle.cbf_reader.proofs.line.after_return.Statement.{statement}
 use Rattle.cbf_reader.proofs.line.after_return.Tie as tie
 
-sub-if1 : tie.Need-sub-if1
-sub-if1 c = search needs
-
-add-if2 : tie.Need-add-if2
-add-if2 c = search needs
-
-shared-slice-read-if2 : tie.Need-shared-slice-read-if2
-shared-slice-read-if2 c = search needs
-
-add-result : tie.Need-add-result
-add-result c = search needs
-
 returns : tie.Need-returns
 returns c =
     let a = c .before .before .before .args in
     let file = now (a .file) in
     (ap (λ (n : ℕ). a .i + n) (sym (return-two file (a .i) (omega arith) (c .if2 .taken))), omega arith)
-
-add-result-2 : tie.Need-add-result-2
-add-result-2 c = search needs
 
 returns-2 : tie.Need-returns-2
 returns-2 c =
@@ -42,4 +27,6 @@ returns-2 c =
 pub after-return-spec : {M : Type 1} → statement M
 after-return-spec =
     tie.close
-    (tie.spec sub-if1 add-if2 shared-slice-read-if2 add-result returns add-result-2 returns-2)
+    (tie.spec
+    (λ c. search needs) (λ c. search needs) (λ c. search needs) (λ c. search needs) returns
+    (λ c. search needs) returns-2)

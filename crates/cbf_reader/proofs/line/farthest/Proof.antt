@@ -7,12 +7,6 @@ use borrow.Author.Needs.{needs}
 use Rattle.cbf_reader.proofs.line.farthest.Statement.{statement}
 use Rattle.cbf_reader.proofs.line.farthest.Tie as tie
 
-sub-if1 : tie.Need-sub-if1
-sub-if1 c = search needs
-
-add-result : tie.Need-add-result
-add-result c = search needs
-
 returns : tie.Need-returns
 returns c = let a = c .before .args in rw (lt-ltb (a .limit) (length (now (a .file)) - a .at) (omega arith))
 
@@ -20,4 +14,4 @@ returns-2 : tie.Need-returns-2
 returns-2 c = let a = c .before .args in rw (le-ltb (a .limit) (length (now (a .file)) - a .at) (omega arith))
 
 pub farthest-spec : {M : Type 1} → statement M
-farthest-spec = tie.close (tie.spec sub-if1 add-result returns returns-2)
+farthest-spec = tie.close (tie.spec (λ c. search needs) (λ c. search needs) returns returns-2)

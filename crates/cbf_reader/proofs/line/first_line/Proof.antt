@@ -7,14 +7,8 @@ use borrow.Author.Needs.{needs}
 use Rattle.cbf_reader.proofs.line.first_line.Statement.{statement}
 use Rattle.cbf_reader.proofs.line.first_line.Tie as tie
 
-identified-requires : tie.Need-identified-requires
-identified-requires c κs = search needs
-
 returns : tie.Need-returns
 returns c = let a = c .before .before .before .args in first-refused (a .limit) (now (a .file)) (c .before .identified .result) (c .before .identified .ensures) (not-true _ (c .if1 .taken))
-
-text-line-requires : tie.Need-text-line-requires
-text-line-requires c κs = search needs
 
 returns-2 : tie.Need-returns-2
 returns-2 c =
@@ -24,4 +18,4 @@ returns-2 c =
     (first-text (a .limit) (now (a .file)) (c .before .before .identified .result) (c .before .before .identified .ensures) (not-false _ (c .before .if1 .left)))
 
 pub first-line-spec : {M : Type 1} → statement M
-first-line-spec = tie.close (tie.spec identified-requires returns text-line-requires returns-2)
+first-line-spec = tie.close (tie.spec (λ c κs. search needs) returns (λ c κs. search needs) returns-2)

@@ -6,15 +6,6 @@ use borrow.Author.Needs.{needs}
 use Rattle.cbf_reader.proofs.line.header_line.Statement.{statement}
 use Rattle.cbf_reader.proofs.line.header_line.Tie as tie
 
-text-line-requires : tie.Need-text-line-requires
-text-line-requires c κs = search needs
-
-enum-known-l : tie.Need-enum-known-l
-enum-known-l c = search needs
-
-enum-known-l-2 : tie.Need-enum-known-l-2
-enum-known-l-2 c = search needs
-
 malformed-requires : tie.Need-malformed-requires
 malformed-requires c κs =
     let a = c .before .before .before .before .before .args in
@@ -50,10 +41,5 @@ pub header-line-spec : {M : Type 1} → statement M
 header-line-spec =
     tie.close
     (tie.spec
-    text-line-requires
-    enum-known-l
-    enum-known-l-2
-    malformed-requires
-    returns
-    returns-2
+    (λ c κs. search needs) (λ c. search needs) (λ c. search needs) malformed-requires returns returns-2
     returns-3)

@@ -34,39 +34,18 @@ version c t n l =
 returns : tie.Need-returns
 returns c = λ t n l. let file = now (c .before .before .args .file) in sym (identified-line file t n l ∙ too-short file (omega arith))
 
-slice-aggregate-is-word : tie.Need-slice-aggregate-is-word
-slice-aggregate-is-word c = search needs
-
-is-word-requires : tie.Need-is-word-requires
-is-word-requires c κs = search needs
-
 returns-2 : tie.Need-returns-2
 returns-2 c = λ t n l.
     let file = now (c .before .before .before .before .before .args .file) in
     sym (identified-line file t n l ∙ other-word file (sym (c .before .is-word .ensures) ∙ not-true _ (c .if2 .taken)))
-
-shared-slice-read-blank : tie.Need-shared-slice-read-blank
-shared-slice-read-blank c = search needs
-
-blank-requires : tie.Need-blank-requires
-blank-requires c κs = search needs
 
 returns-3 : tie.Need-returns-3
 returns-3 c = λ t n l.
     let file = now (c .before .before .before .before .before .before .before .before .args .file) in
     sym (identified-line file t n l ∙ no-blank file (omega arith) (sym (c .before .blank .ensures) ∙ not-true _ (c .if3 .taken)))
 
-after-blanks-requires : tie.Need-after-blanks-requires
-after-blanks-requires c κs = search needs
-
-sub-if4 : tie.Need-sub-if4
-sub-if4 c = search needs
-
 returns-4 : tie.Need-returns-4
 returns-4 c = λ t n l. sym (after-word (c .before) t n l ∙ version-short (now (c .before .before .before .before .before .before .before .before .before .before .args .file)) (c .before .after-blanks .result) (omega arith))
-
-shared-slice-read-version : tie.Need-shared-slice-read-version
-shared-slice-read-version c = search needs
 
 returns-5 : tie.Need-returns-5
 returns-5 c = λ t n l.
@@ -74,23 +53,11 @@ returns-5 c = λ t n l.
     let i = c .before .before .before .before .after-blanks .result in
     sym (version (c .before .before .before) t n l ∙ rw (ne-eqb (getD file i 0) 48 (c .before .if5 .taken), ne-eqb (getD file i 0) 49 (c .if6 .taken)))
 
-add-if7 : tie.Need-add-if7
-add-if7 c = search needs
-
-shared-slice-read-if7 : tie.Need-shared-slice-read-if7
-shared-slice-read-if7 c = search needs
-
 returns-6 : tie.Need-returns-6
 returns-6 c = λ t n l.
     let file = now (c .before .before .before .before .before .before .before .before .before .before .before .before .before .before .args .file) in
     let i = c .before .before .before .before .before .after-blanks .result in
     sym (version (c .before .before .before .before) t n l ∙ rw (ne-eqb (getD file (i + 1) 0) 46 (c .if7 .taken), and-false))
-
-add-revision : tie.Need-add-revision
-add-revision c = search needs
-
-shared-slice-read-revision : tie.Need-shared-slice-read-revision
-shared-slice-read-revision c = search needs
 
 returns-7 : tie.Need-returns-7
 returns-7 c = λ t n l.
@@ -111,22 +78,7 @@ pub identified-spec : {M : Type 1} → statement M
 identified-spec =
     tie.close
     (tie.spec
-    returns
-    slice-aggregate-is-word
-    is-word-requires
-    returns-2
-    shared-slice-read-blank
-    blank-requires
-    returns-3
-    after-blanks-requires
-    sub-if4
-    returns-4
-    shared-slice-read-version
-    returns-5
-    add-if7
-    shared-slice-read-if7
-    returns-6
-    add-revision
-    shared-slice-read-revision
-    returns-7
+    returns (λ c. search needs) (λ c κs. search needs) returns-2 (λ c. search needs) (λ c κs. search needs)
+    returns-3 (λ c κs. search needs) (λ c. search needs) returns-4 (λ c. search needs) returns-5
+    (λ c. search needs) (λ c. search needs) returns-6 (λ c. search needs) (λ c. search needs) returns-7
     returns-8)

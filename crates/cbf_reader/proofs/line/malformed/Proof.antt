@@ -11,19 +11,10 @@ returns c =
     let a = c .before .before .args in
     malformed-empty (now (a .file)) (a .from) (a .to) (a .first) (omega arith) (c .if1 .taken)
 
-shared-slice-read-blank : tie.Need-shared-slice-read-blank
-shared-slice-read-blank c = search needs
-
-blank-requires : tie.Need-blank-requires
-blank-requires c κs = search needs
-
 returns-2 : tie.Need-returns-2
 returns-2 c =
     let a = c .before .before .before .before .before .args in
     malformed-blank (now (a .file)) (a .from) (a .to) (a .first) (omega arith) (omega arith) (sym (c .before .blank .ensures) ∙ c .if2 .taken)
-
-after-name-requires : tie.Need-after-name-requires
-after-name-requires c κs = search needs
 
 returns-3 : tie.Need-returns-3
 returns-3 c =
@@ -35,9 +26,6 @@ returns-4 c =
     let a = c .before .before .before .before .before .before .before .before .args in
     malformed-no-colon (now (a .file)) (a .from) (a .to) (a .first) (omega arith) (omega arith) (sym (c .before .before .before .before .blank .ensures) ∙ c .before .before .before .if2 .left) (c .before .before .after-name .ensures) (c .before .if3 .left) (c .if4 .taken)
 
-shared-slice-read-result : tie.Need-shared-slice-read-result
-shared-slice-read-result c = search needs
-
 returns-5 : tie.Need-returns-5
 returns-5 c =
     let a = c .before .before .before .before .before .before .before .before .before .args in
@@ -48,12 +36,5 @@ pub malformed-spec : {M : Type 1} → statement M
 malformed-spec =
     tie.close
     (tie.spec
-    returns
-    shared-slice-read-blank
-    blank-requires
-    returns-2
-    after-name-requires
-    returns-3
-    returns-4
-    shared-slice-read-result
-    returns-5)
+    returns (λ c. search needs) (λ c κs. search needs) returns-2 (λ c κs. search needs) returns-3 returns-4
+    (λ c. search needs) returns-5)

@@ -10,9 +10,6 @@ use borrow.Author.Needs.{needs}
 use Rattle.cbf_reader.proofs.line.text_line.Statement.{statement}
 use Rattle.cbf_reader.proofs.line.text_line.Tie as tie
 
-farthest-requires : tie.Need-farthest-requires
-farthest-requires c κs = search needs
-
 after-text-requires : tie.Need-after-text-requires
 after-text-requires c κs =
     let a = c .before .before .args in
@@ -61,9 +58,6 @@ returns-3 c =
     run-line (a .limit) file s (endLength (hd (drop (i + 1) file))) (c .after-return .result) (c .after-return .ensures .0)
     (line-13 file i (omega arith) (c .before .if3 .taken))
 
-textual-requires : tie.Need-textual-requires
-textual-requires c κs = search needs
-
 returns-4 : tie.Need-returns-4
 returns-4 c =
     let a = c .before .before .before .before .before .before .before .before .before .args in
@@ -86,14 +80,5 @@ pub text-line-spec : {M : Type 1} → statement M
 text-line-spec =
     tie.close
     (tie.spec
-    farthest-requires
-    after-text-requires
-    returns
-    shared-slice-read-b
-    add-t10
-    returns-2
-    after-return-requires
-    returns-3
-    textual-requires
-    returns-4
-    returns-5)
+    (λ c κs. search needs) after-text-requires returns shared-slice-read-b add-t10 returns-2
+    after-return-requires returns-3 (λ c κs. search needs) returns-4 returns-5)

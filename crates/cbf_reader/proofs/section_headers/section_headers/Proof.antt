@@ -11,18 +11,6 @@ use Rattle.cbf_reader.proofs.SectionHeaderLaws.{readAs, headers-refused
 use Rattle.cbf_reader.proofs.section_headers.section_headers.Statement.{statement}
 use Rattle.cbf_reader.proofs.section_headers.section_headers.Tie as tie
 
-header-end-requires : tie.Need-header-end-requires
-header-end-requires c κs = search needs
-
-enum-known-end : tie.Need-enum-known-end
-enum-known-end c = search needs
-
-enum-told : tie.Need-enum-told
-enum-told c = search needs
-
-enum-known-end-2 : tie.Need-enum-known-end-2
-enum-known-end-2 c = search needs
-
 -- the lines up to the empty line
 lines :
     (c : tie.After-known-told2)
@@ -55,18 +43,6 @@ said c =
     section-found (now (a .file)) (a .at) (a .limit) fileLimit (lines (c .before .before .before .before)) (j .result) (j .ensures .0)
     (c .before .before .if1 .left) (c .describe .result) (c .describe .ensures)
 
-describe-requires : tie.Need-describe-requires
-describe-requires c κs = search needs
-
-enum-told-2 : tie.Need-enum-told-2
-enum-told-2 c = search needs
-
-enum-told-3 : tie.Need-enum-told-3
-enum-told-3 c = search needs
-
-enum-known-described : tie.Need-enum-known-described
-enum-known-described c = search needs
-
 returns-2 : tie.Need-returns-2
 returns-2 c =
     let a = c .before .before .before .before .before .args in
@@ -97,18 +73,6 @@ pub section-headers-spec : {M : Type 1} → statement M
 section-headers-spec =
     tie.close
     (tie.spec
-    header-end-requires
-    enum-known-end
-    enum-told
-    enum-known-end-2
-    judge-headers-requires
-    returns
-    describe-requires
-    enum-told-2
-    enum-told-3
-    enum-known-described
-    returns-2
-    returns-3
-    returns-4
-    returns-5
-    returns-6)
+    (λ c κs. search needs) (λ c. search needs) (λ c. search needs) (λ c. search needs) judge-headers-requires
+    returns (λ c κs. search needs) (λ c. search needs) (λ c. search needs) (λ c. search needs) returns-2
+    returns-3 returns-4 returns-5 returns-6)

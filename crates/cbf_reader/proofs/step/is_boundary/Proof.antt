@@ -9,15 +9,6 @@ use borrow.Author.Needs.{needs}
 use Rattle.cbf_reader.proofs.step.is_boundary.Statement.{statement}
 use Rattle.cbf_reader.proofs.step.is_boundary.Tie as tie
 
-enum-known-field : tie.Need-enum-known-field
-enum-known-field c = search needs
-
-slice-aggregate-is-word : tie.Need-slice-aggregate-is-word
-slice-aggregate-is-word c = search needs
-
-is-word-requires : tie.Need-is-word-requires
-is-word-requires c κs = search needs
-
 returns : tie.Need-returns
 returns c f e =
     let a = c .before .before .before .before .before .before .args in
@@ -34,4 +25,5 @@ returns-2 c f e =
 pub is-boundary-spec : {M : Type 1} → statement M
 is-boundary-spec =
     tie.close
-    (tie.spec enum-known-field slice-aggregate-is-word is-word-requires returns returns-2)
+    (tie.spec
+    (λ c. search needs) (λ c. search needs) (λ c κs. search needs) returns returns-2)

@@ -6,15 +6,6 @@ use borrow.Author.Needs.{needs}
 use Rattle.cbf_reader.proofs.step.line_of_field.Statement.{statement}
 use Rattle.cbf_reader.proofs.step.line_of_field.Tie as tie
 
-enum-told : tie.Need-enum-told
-enum-told c = search needs
-
-first-line-requires : tie.Need-first-line-requires
-first-line-requires c κs = search needs
-
-text-line-requires : tie.Need-text-line-requires
-text-line-requires c κs = search needs
-
 returns : tie.Need-returns
 returns c f b e =
     let a = c .before .before .before .before .args in
@@ -27,4 +18,6 @@ returns-2 c f b e =
 
 pub line-of-field-spec : {M : Type 1} → statement M
 line-of-field-spec =
-    tie.close (tie.spec enum-told first-line-requires text-line-requires returns returns-2)
+    tie.close
+    (tie.spec
+    (λ c. search needs) (λ c κs. search needs) (λ c κs. search needs) returns returns-2)

@@ -7,15 +7,6 @@ use borrow.Author.Needs.{needs}
 use Rattle.cbf_reader.proofs.step.line_step.Statement.{statement}
 use Rattle.cbf_reader.proofs.step.line_step.Tie as tie
 
-enum-told : tie.Need-enum-told
-enum-told c = search needs
-
-next-block-requires : tie.Need-next-block-requires
-next-block-requires c κs = search needs
-
-next-field-requires : tie.Need-next-field-requires
-next-field-requires c κs = search needs
-
 returns : tie.Need-returns
 returns c st n e k =
     let a = c .before .before .before .before .args in
@@ -31,4 +22,7 @@ returns c st n e k =
     (after-line file (a .c) (a .to) (a .next) (c .before .match .block) (c .next-field .result) b (c .next-field .ensures) st n e k, refl, b .low, b .high)
 
 pub line-step-spec : {M : Type 1} → statement M
-line-step-spec = tie.close (tie.spec enum-told next-block-requires next-field-requires returns)
+line-step-spec =
+    tie.close
+    (tie.spec
+    (λ c. search needs) (λ c κs. search needs) (λ c κs. search needs) returns)

@@ -15,22 +15,10 @@ use Rattle.cbf_reader.proofs.step.next_field.Tie as tie
 rest : (at to : ℕ) (file : List ℕ) → blanks (drop 1 (slice at to file)) ≡ blanks (slice (at + 1) to file)
 rest at to file = ap blanks (drop-drop 1 at (take to file))
 
-starts-field-requires : tie.Need-starts-field-requires
-starts-field-requires c κs = search needs
-
-enum-told : tie.Need-enum-told
-enum-told c = search needs
-
-enum-told-2 : tie.Need-enum-told-2
-enum-told-2 c = search needs
-
 returns : tie.Need-returns
 returns c f n b e =
     let a = c .before .before .before .before .before .args in
     follows (a .at) n f b (slice (a .at) (a .to) (now (a .file))) (sym (c .before .enum-told2 .given .1) ∙ e) (sym (not-true _ (c .if1 .taken)) ∙ c .before .before .before .starts-field .ensures) refl
-
-add-is-blank-text : tie.Need-add-is-blank-text
-add-is-blank-text c = search needs
 
 is-blank-text-requires : tie.Need-is-blank-text-requires
 is-blank-text-requires c κs =
@@ -44,16 +32,10 @@ returns-2 c f n b e =
     let a = c .before .before .before .before .before .before .before .args in
     follows (a .at) n f b (slice (a .at) (a .to) (now (a .file))) (sym (c .before .before .before .enum-told2 .given .1) ∙ e) (sym (not-false _ (c .before .before .if1 .left)) ∙ c .before .before .before .before .before .starts-field .ensures) (sym (c .if2 .taken) ∙ c .before .is-blank-text .ensures ∙ sym (rest (a .at) (a .to) (now (a .file))))
 
-enum-known-field : tie.Need-enum-known-field
-enum-known-field c = search needs
-
 returns-3 : tie.Need-returns-3
 returns-3 c f n b e =
     let a = c .before .before .before .before .before .before .args in
     follows (a .at) n f b (slice (a .at) (a .to) (now (a .file))) (sym (c .before .before .field .given .1) ∙ e) (sym (c .if3 .taken) ∙ c .before .before .before .before .starts-field .ensures) refl
-
-enum-known-field-2 : tie.Need-enum-known-field-2
-enum-known-field-2 c = search needs
 
 returns-4 : tie.Need-returns-4
 returns-4 c f n b e =
@@ -84,18 +66,6 @@ pub next-field-spec : {M : Type 1} → statement M
 next-field-spec =
     tie.close
     (tie.spec
-    starts-field-requires
-    enum-told
-    enum-told-2
-    returns
-    add-is-blank-text
-    is-blank-text-requires
-    returns-2
-    enum-known-field
-    returns-3
-    enum-known-field-2
-    returns-4
-    returns-5
-    returns-6
-    returns-7
-    returns-8)
+    (λ c κs. search needs) (λ c. search needs) (λ c. search needs) returns (λ c. search needs)
+    is-blank-text-requires returns-2 (λ c. search needs) returns-3 (λ c. search needs) returns-4 returns-5
+    returns-6 returns-7 returns-8)

@@ -6,33 +6,12 @@ use borrow.Author.Needs.{needs}
 use Rattle.cbf_reader.proofs.step.section_at.Statement.{statement}
 use Rattle.cbf_reader.proofs.step.section_at.Tie as tie
 
-section-headers-requires : tie.Need-section-headers-requires
-section-headers-requires c κs = search needs
-
-enum-known-h : tie.Need-enum-known-h
-enum-known-h c = search needs
-
-enum-told : tie.Need-enum-told
-enum-told c = search needs
-
-enum-known-h-2 : tie.Need-enum-known-h-2
-enum-known-h-2 c = search needs
-
 data-for-requires : tie.Need-data-for-requires
 data-for-requires c κs =
     let a = c .before .before .before .before .before .args in
     let pre = c .before .before .before .before .before .pre in
     let v = c .before .h2 .given in
     (headers-within (a .limit) (now (a .file)) (a .at) (pre .1) (v .0 .0) (v .0 .1 .0) (sym (v .1) ∙ c .before .before .before .section-headers .ensures), pre .2)
-
-enum-known-o : tie.Need-enum-known-o
-enum-known-o c = search needs
-
-enum-told-2 : tie.Need-enum-told-2
-enum-told-2 c = search needs
-
-enum-known-o-2 : tie.Need-enum-known-o-2
-enum-known-o-2 c = search needs
 
 returns : tie.Need-returns
 returns c b =
@@ -79,16 +58,6 @@ pub section-at-spec : {M : Type 1} → statement M
 section-at-spec =
     tie.close
     (tie.spec
-    section-headers-requires
-    enum-known-h
-    enum-told
-    enum-known-h-2
-    data-for-requires
-    enum-known-o
-    enum-told-2
-    enum-known-o-2
-    returns
-    returns-2
-    returns-3
-    returns-4
+    (λ c κs. search needs) (λ c. search needs) (λ c. search needs) (λ c. search needs) data-for-requires
+    (λ c. search needs) (λ c. search needs) (λ c. search needs) returns returns-2 returns-3 returns-4
     returns-5)

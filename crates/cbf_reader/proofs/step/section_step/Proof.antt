@@ -12,21 +12,6 @@ returns c st k =
     let pre = c .before .before .before .pre in
     too-many (a .limit) (now (a .file)) (a .c) (a .next) (pre .0) (pre .1) (pre .2) st k (c .if1 .taken)
 
-section-at-requires : tie.Need-section-at-requires
-section-at-requires c κs = search needs
-
-enum-known-s : tie.Need-enum-known-s
-enum-known-s c = search needs
-
-enum-told : tie.Need-enum-told
-enum-told c = search needs
-
-enum-known-s-2 : tie.Need-enum-known-s-2
-enum-known-s-2 c = search needs
-
-add-t13 : tie.Need-add-t13
-add-t13 c = search needs
-
 returns-2 : tie.Need-returns-2
 returns-2 c st k =
     let a = c .before .before .before .before .before .before .before .before .args in
@@ -49,12 +34,5 @@ pub section-step-spec : {M : Type 1} → statement M
 section-step-spec =
     tie.close
     (tie.spec
-    returns
-    section-at-requires
-    enum-known-s
-    enum-told
-    enum-known-s-2
-    add-t13
-    returns-2
-    returns-3
-    returns-4)
+    returns (λ c κs. search needs) (λ c. search needs) (λ c. search needs) (λ c. search needs)
+    (λ c. search needs) returns-2 returns-3 returns-4)

@@ -51,12 +51,9 @@ pub step-spec : {M : Type 1} → statement M
 step-spec =
     tie.close
     (tie.spec
-    (λ c κs. c .before .pre .at-in)
-    (λ c. search needs)
-    (λ c. search needs)
+    (λ c κs. c .before .pre .at-in) (λ c. search needs) (λ c. search needs)
     (λ c κs. let b = line-bounds (c .before) in (b .0, omega arith))
     (λ c κs. let b = line-bounds (c .before .before .before) in (start (c .before .before .before) .pre, omega arith, b .2))
     returns
     (λ c κs. let b = line-bounds (c .before .before .before) in let ready = start (c .before .before .before) .pre in (b .0, omega arith, ready .block-low, ready .block-high))
-    returns-2
-    returns-3)
+    returns-2 returns-3)

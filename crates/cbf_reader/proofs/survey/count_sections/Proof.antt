@@ -5,15 +5,6 @@ use Rattle.cbf_reader.proofs.SurveyLaws.{survey-count}
 use Rattle.cbf_reader.proofs.survey.count_sections.Statement.{statement}
 use Rattle.cbf_reader.proofs.survey.count_sections.Tie as tie
 
-survey-file-requires : tie.Need-survey-file-requires
-survey-file-requires c κs = search needs
-
-enum-known-s : tie.Need-enum-known-s
-enum-known-s c = search needs
-
-enum-known-s-2 : tie.Need-enum-known-s-2
-enum-known-s-2 c = search needs
-
 returns : tie.Need-returns
 returns c =
     let a = c .before .before .before .before .before .args in
@@ -26,4 +17,6 @@ returns-2 c =
 
 pub count-sections-spec : {M : Type 1} → statement M
 count-sections-spec =
-    tie.close (tie.spec survey-file-requires enum-known-s enum-known-s-2 returns returns-2)
+    tie.close
+    (tie.spec
+    (λ c κs. search needs) (λ c. search needs) (λ c. search needs) returns returns-2)

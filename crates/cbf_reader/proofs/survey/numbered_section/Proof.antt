@@ -7,21 +7,6 @@ use Rattle.cbf_reader.proofs.SurveyLaws.{survey-numbered}
 use Rattle.cbf_reader.proofs.survey.numbered_section.Statement.{statement}
 use Rattle.cbf_reader.proofs.survey.numbered_section.Tie as tie
 
-survey-file-requires : tie.Need-survey-file-requires
-survey-file-requires c κs = search needs
-
-enum-known-s : tie.Need-enum-known-s
-enum-known-s c = search needs
-
-enum-known-s-2 : tie.Need-enum-known-s-2
-enum-known-s-2 c = search needs
-
-enum-told : tie.Need-enum-told
-enum-told c = search needs
-
-enum-known-sought : tie.Need-enum-known-sought
-enum-known-sought c = search needs
-
 returns : tie.Need-returns
 returns c =
     let a = c .before .before .before .before .before .args in
@@ -41,11 +26,5 @@ pub numbered-section-spec : {M : Type 1} → statement M
 numbered-section-spec =
     tie.close
     (tie.spec
-    survey-file-requires
-    enum-known-s
-    enum-known-s-2
-    enum-told
-    enum-known-sought
-    returns
-    returns-2
-    returns-3)
+    (λ c κs. search needs) (λ c. search needs) (λ c. search needs) (λ c. search needs) (λ c. search needs)
+    returns returns-2 returns-3)

@@ -5,15 +5,6 @@ use Rattle.cbf_reader.specs.WalkPlaces.{StartSays}
 use Rattle.cbf_reader.proofs.survey.survey_file.Statement.{statement}
 use Rattle.cbf_reader.proofs.survey.survey_file.Tie as tie
 
-begin-requires : tie.Need-begin-requires
-begin-requires c κs = search needs
-
-enum-known-started : tie.Need-enum-known-started
-enum-known-started c = search needs
-
-enum-known-started-2 : tie.Need-enum-known-started-2
-enum-known-started-2 c = search needs
-
 survey-from-requires : tie.Need-survey-from-requires
 survey-from-requires c κs =
     let a = c .before .before .before .before .before .args in
@@ -36,9 +27,4 @@ pub survey-file-spec : {M : Type 1} → statement M
 survey-file-spec =
     tie.close
     (tie.spec
-    begin-requires
-    enum-known-started
-    enum-known-started-2
-    survey-from-requires
-    returns
-    returns-2)
+    (λ c κs. search needs) (λ c. search needs) (λ c. search needs) survey-from-requires returns returns-2)

@@ -19,23 +19,11 @@ loop-holds c =
     let p = c .before .pre in
     surveyed-start (a .limit) (now (a .file)) (a .number) (a .c) (p .0) (p .2)
 
-next-section-requires : tie.Need-next-section-requires Inv-loop μ-loop
-next-section-requires c κs = search needs
-
-enum-known-next : tie.Need-enum-known-next Inv-loop μ-loop
-enum-known-next c = search needs
-
 returns : tie.Need-returns Inv-loop μ-loop
 returns c = surveyed-refused (c .before .before .before .before .before .before .loop .inv) (c .before .before .before .next-section .ensures) (c .before .next .given .1)
 
-enum-told : tie.Need-enum-told Inv-loop μ-loop
-enum-told c = search needs
-
 returns-2 : tie.Need-returns-2 Inv-loop μ-loop
 returns-2 c = surveyed-end (c .before .before .before .before .before .loop .inv) (c .before .before .next-section .ensures) (c .enum-told .given .1)
-
-enum-known-next-2 : tie.Need-enum-known-next-2 Inv-loop μ-loop
-enum-known-next-2 c = search needs
 
 loop-less : tie.Need-loop-less Inv-loop μ-loop
 loop-less c = loop-onward (c .before .before .before .before .before .before .before .before .loop .inv .here) (c .before .before .before .before .before .next-section .ensures) (c .before .before .before .next2 .given .1) (c .before .before .before .before .before .before .if1 .taken)
@@ -56,17 +44,5 @@ pub survey-from-spec : {M : Type 1} → statement M
 survey-from-spec =
     tie.close
     (tie.spec
-    Inv-loop
-    μ-loop
-    loop-holds
-    next-section-requires
-    enum-known-next
-    returns
-    enum-told
-    returns-2
-    enum-known-next-2
-    loop-less
-    loop-again
-    loop-less-2
-    loop-again-2
-    returns-3)
+    Inv-loop μ-loop loop-holds (λ c κs. search needs) (λ c. search needs) returns (λ c. search needs)
+    returns-2 (λ c. search needs) loop-less loop-again loop-less-2 loop-again-2 returns-3)

@@ -14,26 +14,14 @@ Inv-loop file from to i₀ i = (i ≤ to) × Run textual file from i i
 abbrev μ-loop : tie.MeasureT-loop
 μ-loop file from to i₀ i = to - i
 
-after-blocks-requires : tie.Need-after-blocks-requires Inv-loop μ-loop
-after-blocks-requires c κs = omega arith
-
 loop-holds : tie.Need-loop-holds Inv-loop μ-loop
 loop-holds c = (c .after-blocks .ensures .0, run-weaker (c .after-blocks .ensures .1) plain-textual)
-
-shared-slice-read-b : tie.Need-shared-slice-read-b Inv-loop μ-loop
-shared-slice-read-b c = omega arith
 
 returns : tie.Need-returns Inv-loop μ-loop
 returns c = run-stop (c .before .before .before .before .loop .inv .1) (omega arith) (λ h. text-under _ (c .before .if1 .taken) (c .if2 .taken))
 
 returns-2 : tie.Need-returns-2 Inv-loop μ-loop
 returns-2 c = run-stop (c .before .before .before .before .loop .inv .1) (omega arith) (λ h. text-over _ (c .if3 .taken))
-
-add-i : tie.Need-add-i Inv-loop μ-loop
-add-i c = omega arith
-
-loop-less : tie.Need-loop-less Inv-loop μ-loop
-loop-less c = omega arith
 
 loop-again : tie.Need-loop-again Inv-loop μ-loop
 loop-again c =
@@ -46,14 +34,5 @@ pub after-text-spec : {M : Type 1} → statement M
 after-text-spec =
     tie.close
     (tie.spec
-    Inv-loop
-    μ-loop
-    after-blocks-requires
-    loop-holds
-    shared-slice-read-b
-    returns
-    returns-2
-    add-i
-    loop-less
-    loop-again
-    returns-3)
+    Inv-loop μ-loop (λ c κs. omega arith) loop-holds (λ c. omega arith) returns returns-2 (λ c. omega arith)
+    (λ c. omega arith) loop-again returns-3)

@@ -20,21 +20,6 @@ abbrev μ-loop : tie.MeasureT-loop
 loop-holds : tie.Need-loop-holds Inv-loop μ-loop
 loop-holds c = (omega arith, λ e. run-to (run-start (c .before .args .at)) _ (omega arith))
 
-add-in-class : tie.Need-add-in-class Inv-loop μ-loop
-add-in-class c = omega arith
-
-shared-slice-read-in-class : tie.Need-shared-slice-read-in-class Inv-loop μ-loop
-shared-slice-read-in-class c = omega arith
-
-in-class-requires : tie.Need-in-class-requires Inv-loop μ-loop
-in-class-requires c κs = search needs
-
-add-j : tie.Need-add-j Inv-loop μ-loop
-add-j c = omega arith
-
-loop-less : tie.Need-loop-less Inv-loop μ-loop
-loop-less c = omega arith
-
 loop-again : tie.Need-loop-again Inv-loop μ-loop
 loop-again c =
     let l = c .before .before .before .before .loop in (
@@ -51,13 +36,5 @@ pub block-spec : {M : Type 1} → statement M
 block-spec =
     tie.close
     (tie.spec
-    Inv-loop
-    μ-loop
-    loop-holds
-    add-in-class
-    shared-slice-read-in-class
-    in-class-requires
-    add-j
-    loop-less
-    loop-again
-    returns)
+    Inv-loop μ-loop loop-holds (λ c. omega arith) (λ c. omega arith) (λ c κs. search needs) (λ c. omega arith)
+    (λ c. omega arith) loop-again returns)

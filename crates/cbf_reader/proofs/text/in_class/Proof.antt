@@ -11,33 +11,6 @@ use Rattle.cbf_reader.proofs.text.in_class.Tie as tie
 by-class : {class k : Class} (b : ℕ) {r : Bool} → class ≡ k → r ≡ inClass k b → r ≡ inClass class b
 by-class b e h = h ∙ sym (ap (λ (k : Class). inClass k b) e)
 
-enum-told : tie.Need-enum-told
-enum-told c = search needs
-
-blank-requires : tie.Need-blank-requires
-blank-requires c κs = search needs
-
-enum-told-2 : tie.Need-enum-told-2
-enum-told-2 c = search needs
-
-blank-requires-2 : tie.Need-blank-requires-2
-blank-requires-2 c κs = search needs
-
-enum-known-class : tie.Need-enum-known-class
-enum-known-class c = search needs
-
-enum-told-3 : tie.Need-enum-told-3
-enum-told-3 c = search needs
-
-plain-requires : tie.Need-plain-requires
-plain-requires c κs = search needs
-
-enum-told-4 : tie.Need-enum-told-4
-enum-told-4 c = search needs
-
-base64-letter-requires : tie.Need-base64-letter-requires
-base64-letter-requires c κs = search needs
-
 returns : tie.Need-returns
 returns c = by-class (c .before .before .before .args .b) (c .before .enum-told .given .1) (c .blank .ensures)
 
@@ -57,17 +30,6 @@ pub in-class-spec : {M : Type 1} → statement M
 in-class-spec =
     tie.close
     (tie.spec
-    enum-told
-    blank-requires
-    enum-told-2
-    blank-requires-2
-    enum-known-class
-    enum-told-3
-    plain-requires
-    enum-told-4
-    base64-letter-requires
-    returns
-    returns-2
-    returns-3
-    returns-4
-    returns-5)
+    (λ c. search needs) (λ c κs. search needs) (λ c. search needs) (λ c κs. search needs) (λ c. search needs)
+    (λ c. search needs) (λ c κs. search needs) (λ c. search needs) (λ c κs. search needs) returns returns-2
+    returns-3 returns-4 returns-5)

@@ -3,11 +3,8 @@ use Rattle.cbf_reader.proofs.Texts.{blanks-test}
 use Rattle.cbf_reader.proofs.text.is_blank_text.Statement.{statement}
 use Rattle.cbf_reader.proofs.text.is_blank_text.Tie as tie
 
-after-blanks-requires : tie.Need-after-blanks-requires
-after-blanks-requires c κs = search needs
-
 returns : tie.Need-returns
 returns c = let s = c .before .before in blanks-test (s .args .file .now) (c .after-blanks .ensures) (s .pre .1)
 
 pub is-blank-text-spec : {M : Type 1} → statement M
-is-blank-text-spec = tie.close (tie.spec after-blanks-requires returns)
+is-blank-text-spec = tie.close (tie.spec (λ c κs. search needs) returns)

@@ -6,9 +6,6 @@ use borrow.Author.Needs.{needs}
 use Rattle.cbf_reader.proofs.text.letter.Statement.{statement}
 use Rattle.cbf_reader.proofs.text.letter.Tie as tie
 
-lower-requires : tie.Need-lower-requires
-lower-requires c κs = search needs
-
 returns : tie.Need-returns
 returns c = let l = c .before .lower .result in sym (letter-lower (c .before .before .args .b) l (c .before .lower .ensures) ∙ rw (lt-leb 97 l (omega arith)))
 
@@ -16,4 +13,4 @@ returns-2 : tie.Need-returns-2
 returns-2 c = let l = c .before .lower .result in sym (letter-lower (c .before .before .args .b) l (c .before .lower .ensures) ∙ rw (le-leb 97 l (omega arith)))
 
 pub letter-spec : {M : Type 1} → statement M
-letter-spec = tie.close (tie.spec lower-requires returns returns-2)
+letter-spec = tie.close (tie.spec (λ c κs. search needs) returns returns-2)

@@ -8,9 +8,6 @@ use borrow.Author.Needs.{needs}
 use Rattle.cbf_reader.proofs.text.name_byte.Statement.{statement}
 use Rattle.cbf_reader.proofs.text.name_byte.Tie as tie
 
-letter-requires : tie.Need-letter-requires
-letter-requires c κs = search needs
-
 returns : tie.Need-returns
 returns c =
     let b = c .before .before .args .b in
@@ -32,4 +29,4 @@ returns-4 c =
     sym (ap (λ (t : Bool). t || (digit b || eqb b 45)) (sym (c .before .before .before .letter .ensures) ∙ c .before .before .if1 .left) ∙ rw (le-leb 48 b (omega arith), ne-eqb b 45 (c .before .if2 .left), or-false))
 
 pub name-byte-spec : {M : Type 1} → statement M
-name-byte-spec = tie.close (tie.spec letter-requires returns returns-2 returns-3 returns-4)
+name-byte-spec = tie.close (tie.spec (λ c κs. search needs) returns returns-2 returns-3 returns-4)

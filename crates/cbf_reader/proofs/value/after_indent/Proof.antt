@@ -7,34 +7,10 @@ use Rattle.cbf_reader.proofs.ValueLaws.{indented-one, indented-two}
 use Rattle.cbf_reader.proofs.value.after_indent.Statement.{statement}
 use Rattle.cbf_reader.proofs.value.after_indent.Tie as tie
 
-shared-slice-read-if1 : tie.Need-shared-slice-read-if1
-shared-slice-read-if1 c = search needs
-
-sub-if2 : tie.Need-sub-if2
-sub-if2 c = search needs
-
-add-if3 : tie.Need-add-if3
-add-if3 c = search needs
-
-shared-slice-read-if3 : tie.Need-shared-slice-read-if3
-shared-slice-read-if3 c = search needs
-
-add-after-blanks : tie.Need-add-after-blanks
-add-after-blanks c = search needs
-
-after-blanks-requires : tie.Need-after-blanks-requires
-after-blanks-requires c κs = search needs
-
 returns : tie.Need-returns
 returns c =
     let s = c .before .before .before .before .before .before .before in
     indented-two (now (s .args .file)) (s .args .to) (s .pre .1) (s .args .at) (c .after-blanks .result) (c .before .before .before .before .if1 .taken) (omega arith) (c .before .if3 .taken) (c .after-blanks .ensures)
-
-add-after-blanks-2 : tie.Need-add-after-blanks-2
-add-after-blanks-2 c = search needs
-
-after-blanks-requires-2 : tie.Need-after-blanks-requires-2
-after-blanks-requires-2 c κs = search needs
 
 returns-2 : tie.Need-returns-2
 returns-2 c =
@@ -48,13 +24,5 @@ pub after-indent-spec : {M : Type 1} → statement M
 after-indent-spec =
     tie.close
     (tie.spec
-    shared-slice-read-if1
-    sub-if2
-    add-if3
-    shared-slice-read-if3
-    add-after-blanks
-    after-blanks-requires
-    returns
-    add-after-blanks-2
-    after-blanks-requires-2
-    returns-2)
+    (λ c. search needs) (λ c. search needs) (λ c. search needs) (λ c. search needs) (λ c. search needs)
+    (λ c κs. search needs) returns (λ c. search needs) (λ c κs. search needs) returns-2)

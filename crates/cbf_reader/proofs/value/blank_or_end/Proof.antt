@@ -15,13 +15,10 @@ returns c = sym (ap (λ (z : ℕ). endByte z || blank z) (c .if1 .taken))
 returns-2 : tie.Need-returns-2
 returns-2 c = sym (ap (λ (z : ℕ). endByte z || blank z) (c .if2 .taken))
 
-blank-requires : tie.Need-blank-requires
-blank-requires c κs = search needs
-
 returns-3 : tie.Need-returns-3
 returns-3 c =
     let b = c .before .before .before .args .b in
     c .blank .ensures ∙ sym (ap (λ (z : Bool). z || blank b) (not-end-byte b (c .before .before .if1 .left) (c .before .if2 .left)))
 
 pub blank-or-end-spec : {M : Type 1} → statement M
-blank-or-end-spec = tie.close (tie.spec returns returns-2 blank-requires returns-3)
+blank-or-end-spec = tie.close (tie.spec returns returns-2 (λ c κs. search needs) returns-3)

@@ -13,12 +13,6 @@ use Rattle.cbf_reader.proofs.value.character_at.Tie as tie
 returns : tie.Need-returns
 returns c = joined-empty (now (c .before .before .args .file)) (c .before .before .args .at) (c .before .before .args .to) (c .if1 .taken)
 
-shared-slice-read-b : tie.Need-shared-slice-read-b
-shared-slice-read-b c = search needs
-
-add-t9 : tie.Need-add-t9
-add-t9 c = search needs
-
 returns-2 : tie.Need-returns-2
 returns-2 c =
     let s = c .before .before .before .before .before in
@@ -30,10 +24,8 @@ after-indent-requires c κs =
     let x = getD (now (s .args .file)) (s .args .at) 0 in
     (omega arith, s .pre .1, ⊎-elim (λ w. ap endByte (w .1 .left)) (λ w. ap endByte (w .left)) (c .if2 .came))
 
-returns-3 : tie.Need-returns-3
-returns-3 c = search needs
-
 pub character-at-spec : {M : Type 1} → statement M
 character-at-spec =
     tie.close
-    (tie.spec returns shared-slice-read-b add-t9 returns-2 after-indent-requires returns-3)
+    (tie.spec
+    returns (λ c. search needs) (λ c. search needs) returns-2 after-indent-requires (λ c. search needs))

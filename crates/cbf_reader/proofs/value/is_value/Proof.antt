@@ -23,27 +23,12 @@ abbrev μ-loop : tie.MeasureT-loop
 loop-holds : tie.Need-loop-holds Inv-loop μ-loop
 loop-holds c = (omega arith, omega arith, refl)
 
-character-at-requires : tie.Need-character-at-requires Inv-loop μ-loop
-character-at-requires c κs = search needs
-
-enum-told : tie.Need-enum-told Inv-loop μ-loop
-enum-told c = search needs
-
 returns : tie.Need-returns Inv-loop μ-loop
 returns c =
     let a = c .before .before .before .before .before .before .before .args in
     let l = c .before .before .before .before .loop in
     let e = subst (λ (r : Character). Stepped (now (a .file)) (l .at) (a .to) r) (c .enum-told .given .1) (c .before .before .character-at .ensures) in
     sym (l .inv .2 ∙ word-over (now (a .word)) (l .i) (c .before .before .before .loop-test .taken) (joined (slice (l .at) (a .to) (now (a .file)))) e)
-
-enum-known-c : tie.Need-enum-known-c Inv-loop μ-loop
-enum-known-c c = search needs
-
-lower-requires : tie.Need-lower-requires Inv-loop μ-loop
-lower-requires c κs = search needs
-
-shared-slice-read-if1 : tie.Need-shared-slice-read-if1 Inv-loop μ-loop
-shared-slice-read-if1 c = omega arith
 
 returns-2 : tie.Need-returns-2 Inv-loop μ-loop
 returns-2 c =
@@ -53,12 +38,6 @@ returns-2 c =
     let e = subst (λ (r : Character). Stepped (now (a .file)) (l .at) (a .to) r) (m .1) (c .before .before .before .before .before .before .character-at .ensures) in
     let t = c .before .before .before .before .before .before .before .loop-test .taken in
     sym (l .inv .2 ∙ word-differs (now (a .word)) (l .i) t (m .0 .0) (joined (slice (l .at) (a .to) (now (a .file)))) (joined (slice (m .0 .1 .0) (a .to) (now (a .file)))) (e .0) (λ q. c .if1 .taken (c .before .before .lower .ensures ∙ q)))
-
-add-i : tie.Need-add-i Inv-loop μ-loop
-add-i c = omega arith
-
-loop-less : tie.Need-loop-less Inv-loop μ-loop
-loop-less c = omega arith
 
 loop-again : tie.Need-loop-again Inv-loop μ-loop
 loop-again c =
@@ -83,17 +62,6 @@ pub is-value-spec : {M : Type 1} → statement M
 is-value-spec =
     tie.close
     (tie.spec
-    Inv-loop
-    μ-loop
-    loop-holds
-    character-at-requires
-    enum-told
-    returns
-    enum-known-c
-    lower-requires
-    shared-slice-read-if1
-    returns-2
-    add-i
-    loop-less
-    loop-again
+    Inv-loop μ-loop loop-holds (λ c κs. search needs) (λ c. search needs) returns (λ c. search needs)
+    (λ c κs. search needs) (λ c. omega arith) returns-2 (λ c. omega arith) (λ c. omega arith) loop-again
     returns-3)

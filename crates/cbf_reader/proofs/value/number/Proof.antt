@@ -21,17 +21,11 @@ Inv-loop file from to least most n₀ i₀ n i =
 abbrev μ-loop : tie.MeasureT-loop
 μ-loop file from to least most n₀ i₀ n i = to - i
 
-sub-if1 : tie.Need-sub-if1 Inv-loop μ-loop
-sub-if1 c = omega arith
-
 returns : tie.Need-returns Inv-loop μ-loop
 returns c =
     let a = c .before .args in
     let s = slice (a .from) (a .to) (now (a .file)) in
     whole-bad (a .least) (a .most) s (number-short s (omega (arith, length-slice (a .from) (a .to) (now (a .file)) (c .before .pre .1))))
-
-sub-if2 : tie.Need-sub-if2 Inv-loop μ-loop
-sub-if2 c = omega arith
 
 returns-2 : tie.Need-returns-2 Inv-loop μ-loop
 returns-2 c =
@@ -44,9 +38,6 @@ loop-holds c =
     let a = c .before .before .args in
     let z : a .from - a .from ≡ 0 = omega arith in
     (omega arith, omega arith, rw z (omega arith), refl, refl)
-
-shared-slice-read-b : tie.Need-shared-slice-read-b Inv-loop μ-loop
-shared-slice-read-b c = omega arith
 
 returns-3 : tie.Need-returns-3 Inv-loop μ-loop
 returns-3 c =
@@ -80,12 +71,6 @@ add-n c =
     let a = c .before .before .before .before .before .before .before .args in
     let l = c .before .before .before .before .loop in
     omega (arith, c .before .before .shared-slice-known .given (l .i), ten-digits (l .i - a .from) (l .n) (l .inv .2) (omega arith))
-
-add-i : tie.Need-add-i Inv-loop μ-loop
-add-i c = omega arith
-
-loop-less : tie.Need-loop-less Inv-loop μ-loop
-loop-less c = omega arith
 
 loop-again : tie.Need-loop-again Inv-loop μ-loop
 loop-again c =
@@ -131,22 +116,6 @@ pub number-spec : {M : Type 1} → statement M
 number-spec =
     tie.close
     (tie.spec
-    Inv-loop
-    μ-loop
-    sub-if1
-    returns
-    sub-if2
-    returns-2
-    loop-holds
-    shared-slice-read-b
-    returns-3
-    returns-4
-    mul-n
-    cast-n
-    add-n
-    add-i
-    loop-less
-    loop-again
-    returns-5
-    returns-6
-    returns-7)
+    Inv-loop μ-loop (λ c. omega arith) returns (λ c. omega arith) returns-2 loop-holds (λ c. omega arith)
+    returns-3 returns-4 mul-n cast-n add-n (λ c. omega arith) (λ c. omega arith) loop-again returns-5
+    returns-6 returns-7)

@@ -20,38 +20,11 @@ abbrev μ-loop : tie.MeasureT-loop
 loop-holds : tie.Need-loop-holds Inv-loop μ-loop
 loop-holds c = (omega arith, omega arith, omega arith, refl)
 
-shared-slice-read-blank-or-end : tie.Need-shared-slice-read-blank-or-end Inv-loop μ-loop
-shared-slice-read-blank-or-end c = omega arith
-
-blank-or-end-requires : tie.Need-blank-or-end-requires Inv-loop μ-loop
-blank-or-end-requires c κs = search needs
-
-add-a : tie.Need-add-a Inv-loop μ-loop
-add-a c = omega arith
-
-loop-less : tie.Need-loop-less Inv-loop μ-loop
-loop-less c = omega arith
-
 loop-again : tie.Need-loop-again Inv-loop μ-loop
 loop-again c =
     let s = c .before .before .before .before .before .before in
     let l = c .before .before .before .before .loop in
     (omega arith, omega arith, omega arith, sym (trim-front (now (s .args .file)) (l .a) (l .b) (c .before .before .before .loop-test .taken) (omega arith) (sym (c .before .blank-or-end .ensures) ∙ c .if1 .taken)) ∙ l .inv .3)
-
-sub-blank-or-end : tie.Need-sub-blank-or-end Inv-loop μ-loop
-sub-blank-or-end c = omega arith
-
-shared-slice-read-blank-or-end-2 : tie.Need-shared-slice-read-blank-or-end-2 Inv-loop μ-loop
-shared-slice-read-blank-or-end-2 c = omega arith
-
-blank-or-end-requires-2 : tie.Need-blank-or-end-requires-2 Inv-loop μ-loop
-blank-or-end-requires-2 c κs = search needs
-
-sub-b : tie.Need-sub-b Inv-loop μ-loop
-sub-b c = omega arith
-
-loop-less-2 : tie.Need-loop-less-2 Inv-loop μ-loop
-loop-less-2 c = omega arith
 
 loop-again-2 : tie.Need-loop-again-2 Inv-loop μ-loop
 loop-again-2 c =
@@ -88,19 +61,6 @@ pub trimmed-spec : {M : Type 1} → statement M
 trimmed-spec =
     tie.close
     (tie.spec
-    Inv-loop
-    μ-loop
-    loop-holds
-    shared-slice-read-blank-or-end
-    blank-or-end-requires
-    add-a
-    loop-less
-    loop-again
-    sub-blank-or-end
-    shared-slice-read-blank-or-end-2
-    blank-or-end-requires-2
-    sub-b
-    loop-less-2
-    loop-again-2
-    returns
-    returns-2)
+    Inv-loop μ-loop loop-holds (λ c. omega arith) (λ c κs. search needs) (λ c. omega arith) (λ c. omega arith)
+    loop-again (λ c. omega arith) (λ c. omega arith) (λ c κs. search needs) (λ c. omega arith)
+    (λ c. omega arith) loop-again-2 returns returns-2)

@@ -14,9 +14,6 @@ returns c = λ limit. read-long limit (now (c .before .before .args .file)) (c .
 returns-2 : tie.Need-returns-2
 returns-2 c = λ limit. read-empty limit (now (c .before .before .before .args .file)) (c .if2 .taken)
 
-first-cursor-requires : tie.Need-first-cursor-requires
-first-cursor-requires c κs = search needs
-
 returns-3 : tie.Need-returns-3
 returns-3 c =
     let file = now (c .before .before .before .before .args .file) in
@@ -25,4 +22,4 @@ returns-3 c =
     λ limit. (c .first-cursor .ensures, read-whole limit file some-byte fits, some-byte, fits)
 
 pub begin-spec : {M : Type 1} → statement M
-begin-spec = tie.close (tie.spec returns returns-2 first-cursor-requires returns-3)
+begin-spec = tie.close (tie.spec returns returns-2 (λ c κs. search needs) returns-3)

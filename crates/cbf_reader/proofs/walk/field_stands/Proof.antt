@@ -5,18 +5,6 @@ use borrow.Author.Tests.{eqb-true, eq-eqb, leb-true, le-leb}
 use Rattle.cbf_reader.proofs.walk.field_stands.Statement.{statement}
 use Rattle.cbf_reader.proofs.walk.field_stands.Tie as tie
 
-enum-told : tie.Need-enum-told
-enum-told c = search needs
-
-enum-told-2 : tie.Need-enum-told-2
-enum-told-2 c = search needs
-
-enum-known-field : tie.Need-enum-known-field
-enum-known-field c = search needs
-
-enum-known-field-2 : tie.Need-enum-known-field-2
-enum-known-field-2 c = search needs
-
 returns : tie.Need-returns
 returns c = rw (c .enum-told .given .1) (eqb-true _ _, eq-eqb _ _)
 
@@ -33,11 +21,5 @@ pub field-stands-spec : {M : Type 1} → statement M
 field-stands-spec =
     tie.close
     (tie.spec
-    enum-told
-    enum-told-2
-    enum-known-field
-    enum-known-field-2
-    returns
-    returns-2
-    returns-3
-    returns-4)
+    (λ c. search needs) (λ c. search needs) (λ c. search needs) (λ c. search needs) returns returns-2
+    returns-3 returns-4)

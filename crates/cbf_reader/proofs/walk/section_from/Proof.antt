@@ -25,9 +25,6 @@ loop-holds c = let a = c .before .args in (c .before .pre, walked-start (a .limi
 step-requires : tie.Need-step-requires Inv-loop μ-loop
 step-requires c κs = c .before .before .loop .inv .0
 
-enum-known-s : tie.Need-enum-known-s Inv-loop μ-loop
-enum-known-s c = search needs
-
 returns : tie.Need-returns Inv-loop μ-loop
 returns c done k =
     let a = c .before .before .before .before .before .before .before .before .args in
@@ -35,12 +32,6 @@ returns c done k =
     let t = c .before .before .before .step in
     let w = l .inv .1 done k in
     gave (a .limit) (now (a .file)) (l .cursor) (l .inv .0) (c .before .before .before .before .if1 .taken) (t .ensures) (c .before .s .given .1) (done ++ w .0) (w .2)
-
-enum-told : tie.Need-enum-told Inv-loop μ-loop
-enum-told c = search needs
-
-open-place-requires : tie.Need-open-place-requires Inv-loop μ-loop
-open-place-requires c κs = search needs
 
 returns-2 : tie.Need-returns-2 Inv-loop μ-loop
 returns-2 c done k =
@@ -50,9 +41,6 @@ returns-2 c done k =
     let w = l .inv .1 done k in
     gave (a .limit) (now (a .file)) (l .cursor) (l .inv .0) (c .before .before .before .before .if1 .taken) (t .ensures) (c .before .enum-told .given .1) (done ++ w .0) (w .2)
     ∙ ap (refused 11) (sym (c .open-place .ensures))
-
-enum-known-s-2 : tie.Need-enum-known-s-2 Inv-loop μ-loop
-enum-known-s-2 c = search needs
 
 loop-less : tie.Need-loop-less Inv-loop μ-loop
 loop-less c =
@@ -75,9 +63,6 @@ loop-again c =
           (gave (a .limit) (now (a .file)) (l .cursor) (l .inv .0) (c .before .before .before .before .if1 .taken) (t .ensures) (c .before .s2 .given .1)),
     )
 
-enum-known-s-3 : tie.Need-enum-known-s-3 Inv-loop μ-loop
-enum-known-s-3 c = search needs
-
 returns-3 : tie.Need-returns-3 Inv-loop μ-loop
 returns-3 c done k =
     let a = c .before .before .before .before .before .before .before .before .args in
@@ -96,9 +81,6 @@ returns-3 c done k =
       subst (λ (z : F.Tree). Come (a .limit) (now (a .file)) z (c .before .s3 .given .0 .1 .0)) (append-assoc done (w .0) (g .0 ∷ [])) (g .6),
     )
 
-at-end-requires : tie.Need-at-end-requires Inv-loop μ-loop
-at-end-requires c κs = search needs
-
 returns-4 : tie.Need-returns-4 Inv-loop μ-loop
 returns-4 c done k =
     let a = c .before .before .before .before .before .args in
@@ -111,19 +93,6 @@ pub section-from-spec : {M : Type 1} → statement M
 section-from-spec =
     tie.close
     (tie.spec
-    Inv-loop
-    μ-loop
-    loop-holds
-    step-requires
-    enum-known-s
-    returns
-    enum-told
-    open-place-requires
-    returns-2
-    enum-known-s-2
-    loop-less
-    loop-again
-    enum-known-s-3
-    returns-3
-    at-end-requires
-    returns-4)
+    Inv-loop μ-loop loop-holds step-requires (λ c. search needs) returns (λ c. search needs)
+    (λ c κs. search needs) returns-2 (λ c. search needs) loop-less loop-again (λ c. search needs) returns-3
+    (λ c κs. search needs) returns-4)

@@ -20,9 +20,6 @@ returns-4 c = (never, λ ready. absurd (omega (arith, ready .block-low, c .if4 .
 returns-5 : tie.Need-returns-5
 returns-5 c = (never, λ ready. absurd (omega (arith, ready .block-high, c .if5 .taken)))
 
-field-stands-requires : tie.Need-field-stands-requires
-field-stands-requires c κs = search needs
-
 returns-6 : tie.Need-returns-6
 returns-6 c =
     let a = c .before .before .before .before .before .before .before .before .before .before .before .before .args in
@@ -42,4 +39,5 @@ returns-6 c =
 pub stands-spec : {M : Type 1} → statement M
 stands-spec =
     tie.close
-    (tie.spec returns returns-2 returns-3 returns-4 returns-5 field-stands-requires returns-6)
+    (tie.spec
+    returns returns-2 returns-3 returns-4 returns-5 (λ c κs. search needs) returns-6)

@@ -10,42 +10,6 @@ use Rattle.cbf_replace.proofs.head.head_length.Tie as tie
 short : (c : tie.After-type-length) → c .type-length .result ≤ 23
 short c = omega (arith, c .type-length .ensures, type-short (c .before .before .before .before .before .before .before .before .before .before .before .args .d .kind))
 
-digit-count-requires : tie.Need-digit-count-requires
-digit-count-requires c κs = search needs
-
-digit-count-requires-2 : tie.Need-digit-count-requires-2
-digit-count-requires-2 c κs = search needs
-
-add-numbers : tie.Need-add-numbers
-add-numbers c = search needs
-
-slice-aggregate-optional-length : tie.Need-slice-aggregate-optional-length
-slice-aggregate-optional-length c = search needs
-
-optional-length-requires : tie.Need-optional-length-requires
-optional-length-requires c κs = search needs
-
-slice-aggregate-optional-length-2 : tie.Need-slice-aggregate-optional-length-2
-slice-aggregate-optional-length-2 c = search needs
-
-optional-length-requires-2 : tie.Need-optional-length-requires-2
-optional-length-requires-2 c κs = search needs
-
-slice-aggregate-optional-length-3 : tie.Need-slice-aggregate-optional-length-3
-slice-aggregate-optional-length-3 c = search needs
-
-optional-length-requires-3 : tie.Need-optional-length-requires-3
-optional-length-requires-3 c κs = search needs
-
-slice-aggregate-optional-length-4 : tie.Need-slice-aggregate-optional-length-4
-slice-aggregate-optional-length-4 c = search needs
-
-optional-length-requires-4 : tie.Need-optional-length-requires-4
-optional-length-requires-4 c κs = search needs
-
-type-length-requires : tie.Need-type-length-requires
-type-length-requires c κs = search needs
-
 add-result : tie.Need-add-result
 add-result c = let h = short c in search needs
 
@@ -73,22 +37,7 @@ pub head-length-spec : {M : Type 1} → statement M
 head-length-spec =
     tie.close
     (tie.spec
-    digit-count-requires
-    digit-count-requires-2
-    add-numbers
-    slice-aggregate-optional-length
-    optional-length-requires
-    slice-aggregate-optional-length-2
-    optional-length-requires-2
-    slice-aggregate-optional-length-3
-    optional-length-requires-3
-    slice-aggregate-optional-length-4
-    optional-length-requires-4
-    type-length-requires
-    add-result
-    add-result-2
-    add-result-3
-    add-result-4
-    add-result-5
-    add-result-6
-    returns)
+    (λ c κs. search needs) (λ c κs. search needs) (λ c. search needs) (λ c. search needs)
+    (λ c κs. search needs) (λ c. search needs) (λ c κs. search needs) (λ c. search needs)
+    (λ c κs. search needs) (λ c. search needs) (λ c κs. search needs) (λ c κs. search needs) add-result
+    add-result-2 add-result-3 add-result-4 add-result-5 add-result-6 returns)

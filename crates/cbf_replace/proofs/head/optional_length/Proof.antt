@@ -11,15 +11,6 @@ returns c =
     let a = c .before .before .args in
     rw (optional-none (a .n) (c .if1 .taken), no-line (a .name .now)) (refl, omega arith)
 
-digit-count-requires : tie.Need-digit-count-requires
-digit-count-requires c κs = search needs
-
-add-result : tie.Need-add-result
-add-result c = search needs
-
-add-result-2 : tie.Need-add-result-2
-add-result-2 c = search needs
-
 returns-2 : tie.Need-returns-2
 returns-2 c =
     let s = c .before .before .before in
@@ -29,4 +20,6 @@ returns-2 c =
 
 pub optional-length-spec : {M : Type 1} → statement M
 optional-length-spec =
-    tie.close (tie.spec returns digit-count-requires add-result add-result-2 returns-2)
+    tie.close
+    (tie.spec
+    returns (λ c κs. search needs) (λ c. search needs) (λ c. search needs) returns-2)

@@ -86,26 +86,14 @@ after-11 c = written-more (after-10 (c .before .before .before .before .before))
 
 -- what each call needs
 
-slice-aggregate-put-text : tie.Need-slice-aggregate-put-text
-slice-aggregate-put-text c = search needs
-
 put-text-requires : tie.Need-put-text-requires
 put-text-requires c κs = next-fits (none-yet (c .before .before .before))
-
-slice-aggregate-put-line : tie.Need-slice-aggregate-put-line
-slice-aggregate-put-line c = search needs
 
 put-line-requires : tie.Need-put-line-requires
 put-line-requires c κs = next-fits (after-1 (c .before .before .before .before))
 
-slice-aggregate-put-optional : tie.Need-slice-aggregate-put-optional
-slice-aggregate-put-optional c = search needs
-
 put-optional-requires : tie.Need-put-optional-requires
 put-optional-requires c κs = next-fits (after-2 (c .before .before .before .before))
-
-slice-aggregate-put-text-2 : tie.Need-slice-aggregate-put-text-2
-slice-aggregate-put-text-2 c = search needs
 
 put-text-requires-2 : tie.Need-put-text-requires-2
 put-text-requires-2 c κs = next-fits (after-3 (c .before .before .before .before))
@@ -113,38 +101,20 @@ put-text-requires-2 c κs = next-fits (after-3 (c .before .before .before .befor
 put-type-requires : tie.Need-put-type-requires
 put-type-requires c κs = next-fits (after-4 (c .before .before .before))
 
-slice-aggregate-put-text-3 : tie.Need-slice-aggregate-put-text-3
-slice-aggregate-put-text-3 c = search needs
-
 put-text-requires-3 : tie.Need-put-text-requires-3
 put-text-requires-3 c κs = next-fits (after-5 (c .before .before .before .before))
-
-slice-aggregate-put-line-2 : tie.Need-slice-aggregate-put-line-2
-slice-aggregate-put-line-2 c = search needs
 
 put-line-requires-2 : tie.Need-put-line-requires-2
 put-line-requires-2 c κs = next-fits (after-6 (c .before .before .before .before))
 
-slice-aggregate-put-optional-2 : tie.Need-slice-aggregate-put-optional-2
-slice-aggregate-put-optional-2 c = search needs
-
 put-optional-requires-2 : tie.Need-put-optional-requires-2
 put-optional-requires-2 c κs = next-fits (after-7 (c .before .before .before .before))
-
-slice-aggregate-put-optional-3 : tie.Need-slice-aggregate-put-optional-3
-slice-aggregate-put-optional-3 c = search needs
 
 put-optional-requires-3 : tie.Need-put-optional-requires-3
 put-optional-requires-3 c κs = next-fits (after-8 (c .before .before .before .before))
 
-slice-aggregate-put-optional-4 : tie.Need-slice-aggregate-put-optional-4
-slice-aggregate-put-optional-4 c = search needs
-
 put-optional-requires-4 : tie.Need-put-optional-requires-4
 put-optional-requires-4 c κs = next-fits (after-9 (c .before .before .before .before))
-
-slice-aggregate-put-text-4 : tie.Need-slice-aggregate-put-text-4
-slice-aggregate-put-text-4 c = search needs
 
 put-text-requires-4 : tie.Need-put-text-requires-4
 put-text-requires-4 c κs = next-fits (after-10 (c .before .before .before .before))
@@ -159,26 +129,8 @@ pub put-head-spec : {M : Type 1} → statement M
 put-head-spec =
     tie.close
     (tie.spec
-    slice-aggregate-put-text
-    put-text-requires
-    slice-aggregate-put-line
-    put-line-requires
-    slice-aggregate-put-optional
-    put-optional-requires
-    slice-aggregate-put-text-2
-    put-text-requires-2
-    put-type-requires
-    slice-aggregate-put-text-3
-    put-text-requires-3
-    slice-aggregate-put-line-2
-    put-line-requires-2
-    slice-aggregate-put-optional-2
-    put-optional-requires-2
-    slice-aggregate-put-optional-3
-    put-optional-requires-3
-    slice-aggregate-put-optional-4
-    put-optional-requires-4
-    slice-aggregate-put-text-4
-    put-text-requires-4
-    same-length
-    returns)
+    (λ c. search needs) put-text-requires (λ c. search needs) put-line-requires (λ c. search needs)
+    put-optional-requires (λ c. search needs) put-text-requires-2 put-type-requires (λ c. search needs)
+    put-text-requires-3 (λ c. search needs) put-line-requires-2 (λ c. search needs) put-optional-requires-2
+    (λ c. search needs) put-optional-requires-3 (λ c. search needs) put-optional-requires-4
+    (λ c. search needs) put-text-requires-4 same-length returns)

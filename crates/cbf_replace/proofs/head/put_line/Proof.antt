@@ -29,14 +29,8 @@ put-text-requires c κs = next-fits (none-yet (c .before .before .before))
 put-number-requires : tie.Need-put-number-requires
 put-number-requires c κs = next-fits (after-1 (c .before .before .before))
 
-slice-aggregate-put-text : tie.Need-slice-aggregate-put-text
-slice-aggregate-put-text c = search needs
-
 put-text-requires-2 : tie.Need-put-text-requires-2
 put-text-requires-2 c κs = next-fits (after-2 (c .before .before .before .before))
-
-same-length : tie.Need-same-length
-same-length c = search needs
 
 returns : tie.Need-returns
 returns c = written-all (written-more (after-2 (c .before .before .before .before .before .before .before)) (c .before .before .put-text2 .ensures))
@@ -45,9 +39,4 @@ pub put-line-spec : {M : Type 1} → statement M
 put-line-spec =
     tie.close
     (tie.spec
-    put-text-requires
-    put-number-requires
-    slice-aggregate-put-text
-    put-text-requires-2
-    same-length
-    returns)
+    put-text-requires put-number-requires (λ c. search needs) put-text-requires-2 (λ c. search needs) returns)

@@ -16,13 +16,10 @@ put-line-requires c κs =
     let s = c .before .before .before .before in
     rw (optional-some (s .args .n) (omega arith)) at (s .pre)
 
-same-length : tie.Need-same-length
-same-length c = search needs
-
 returns-2 : tie.Need-returns-2
 returns-2 c =
     let s = c .before .before .before .before .before .before .before in
     rw (optional-some (s .args .n) (omega (arith, c .before .before .before .before .if1 .left))) (c .before .before .put-line .ensures)
 
 pub put-optional-spec : {M : Type 1} → statement M
-put-optional-spec = tie.close (tie.spec returns put-line-requires same-length returns-2)
+put-optional-spec = tie.close (tie.spec returns put-line-requires (λ c. search needs) returns-2)

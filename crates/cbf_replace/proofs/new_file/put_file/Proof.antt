@@ -74,26 +74,11 @@ put-head-requires c κs = next-fits (after-1 (c .before .before .before))
 write-octets-requires : tie.Need-write-octets-requires
 write-octets-requires c κs = let m = c .before .before .before in (start-2 m .pre .1 .small, next-fits (after-2 m))
 
-slice-aggregate-put-text : tie.Need-slice-aggregate-put-text
-slice-aggregate-put-text c = search needs
-
 put-text-requires : tie.Need-put-text-requires
 put-text-requires c κs = next-fits (after-3 (c .before .before .before .before))
 
-sub-copy : tie.Need-sub-copy
-sub-copy c = search needs
-
-part-copy-start : tie.Need-part-copy-start
-part-copy-start c = search needs
-
-part-copy-end : tie.Need-part-copy-end
-part-copy-end c = search needs
-
 copy-requires-2 : tie.Need-copy-requires-2
 copy-requires-2 c κs = next-fits (after-4 (c .before .before .before .before))
-
-same-length : tie.Need-same-length
-same-length c = search needs
 
 returns : tie.Need-returns
 returns c = written-all (after-5 (c .before .before)) .1
@@ -102,15 +87,6 @@ pub put-file-spec : {M : Type 1} → statement M
 put-file-spec =
     tie.close
     (tie.spec
-    slice-aggregate-copy
-    copy-requires
-    put-head-requires
-    write-octets-requires
-    slice-aggregate-put-text
-    put-text-requires
-    sub-copy
-    part-copy-start
-    part-copy-end
-    copy-requires-2
-    same-length
-    returns)
+    slice-aggregate-copy copy-requires put-head-requires write-octets-requires (λ c. search needs)
+    put-text-requires (λ c. search needs) (λ c. search needs) (λ c. search needs) copy-requires-2
+    (λ c. search needs) returns)

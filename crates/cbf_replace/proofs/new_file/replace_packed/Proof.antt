@@ -25,24 +25,6 @@ returns c =
     let os = packByteOffset (a .frame .now) in
     packed-large os (fileWith (a .file .now) (a .s) os) (a .out .now) (omega (arith, s .pre .1 .counted, c .if1 .taken))
 
-head-length-requires : tie.Need-head-length-requires
-head-length-requires c κs = search needs
-
-add-span : tie.Need-add-span
-add-span c = search needs
-
-add-span-2 : tie.Need-add-span-2
-add-span-2 c = search needs
-
-add-length : tie.Need-add-length
-add-length c = search needs
-
-sub-length : tie.Need-sub-length
-sub-length c = search needs
-
-add-length-2 : tie.Need-add-length-2
-add-length-2 c = search needs
-
 returns-2 : tie.Need-returns-2
 returns-2 c =
     let m = c .before .before .before in
@@ -65,9 +47,6 @@ put-file-requires c κs =
     let s = m .before .before .before .before in
     (s .pre .0, s .pre .1, omega (arith, length-is m, c .before .if3 .left))
 
-same-length : tie.Need-same-length
-same-length c = search needs
-
 returns-4 : tie.Need-returns-4
 returns-4 c =
     let p = c .before .before in
@@ -83,15 +62,6 @@ pub replace-packed-spec : {M : Type 1} → statement M
 replace-packed-spec =
     tie.close
     (tie.spec
-    returns
-    head-length-requires
-    add-span
-    add-span-2
-    add-length
-    sub-length
-    add-length-2
-    returns-2
-    returns-3
-    put-file-requires
-    same-length
+    returns (λ c κs. search needs) (λ c. search needs) (λ c. search needs) (λ c. search needs)
+    (λ c. search needs) (λ c. search needs) returns-2 returns-3 put-file-requires (λ c. search needs)
     returns-4)

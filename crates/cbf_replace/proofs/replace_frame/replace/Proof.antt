@@ -12,21 +12,6 @@ use Rattle.cbf_replace.proofs.ReplaceLaws.{Here, here-of, replace-refus
 use Rattle.cbf_replace.proofs.replace_frame.replace.Statement.{statement}
 use Rattle.cbf_replace.proofs.replace_frame.replace.Tie as tie
 
-numbered-section-requires : tie.Need-numbered-section-requires
-numbered-section-requires c κs = search needs
-
-enum-known-numbered : tie.Need-enum-known-numbered
-enum-known-numbered c = search needs
-
-enum-known-numbered-2 : tie.Need-enum-known-numbered-2
-enum-known-numbered-2 c = search needs
-
-enum-told : tie.Need-enum-told
-enum-told c = search needs
-
-enum-told-2 : tie.Need-enum-told-2
-enum-told-2 c = search needs
-
 -- what the reader says of each answer of its own
 said : (m : tie.After-numbered-section) {x : Numbered} → m .numbered-section .result ≡ x
     → let a = m .before .before .before .args in NumberedSays (now (a .file)) (a .number) (F.read (a .limit) (now (a .file))) x
@@ -53,9 +38,6 @@ returns c =
     let a = m .before .before .before .args in
     replace-refused (now (a .file)) (a .number) (F.read (a .limit) (now (a .file))) (b .numbered .given .0 .0) (now (a .frame)) (now (a .out)) (said m (b .numbered .given .1))
 
-same-length : tie.Need-same-length
-same-length c = search needs
-
 returns-2 : tie.Need-returns-2
 returns-2 c =
     let u = c .before .before in
@@ -75,13 +57,5 @@ pub replace-spec : {M : Type 1} → statement M
 replace-spec =
     tie.close
     (tie.spec
-    numbered-section-requires
-    enum-known-numbered
-    enum-known-numbered-2
-    enum-told
-    replace-section-requires
-    enum-told-2
-    returns
-    same-length
-    returns-2
-    returns-3)
+    (λ c κs. search needs) (λ c. search needs) (λ c. search needs) (λ c. search needs)
+    replace-section-requires (λ c. search needs) returns (λ c. search needs) returns-2 returns-3)

@@ -13,15 +13,6 @@ returns c =
     let a = c .before .before .before .before .args in
     wrong-count (described (a .s .description)) (a .frame .now) (fileWith (a .file .now) (a .s) (packByteOffset (a .frame .now))) (a .out .now) (c .if1 .taken)
 
-octet-count-requires : tie.Need-octet-count-requires
-octet-count-requires c κs = search needs
-
-enum-told : tie.Need-enum-told
-enum-told c = search needs
-
-enum-known-size : tie.Need-enum-known-size
-enum-known-size c = search needs
-
 replace-packed-requires : tie.Need-replace-packed-requires
 replace-packed-requires c κs =
     let m = c .before .before .before .before in
@@ -34,9 +25,6 @@ returns-2 c =
     let a = m .before .before .before .before .before .args in
     pixel-outside (described (a .s .description)) (a .frame .now) (fileWith (a .file .now) (a .s) (packByteOffset (a .frame .now))) (a .out .now) (m .before .if1 .left)
     (sym (c .enum-told .given .1) ∙ m .octet-count .ensures)
-
-same-length : tie.Need-same-length
-same-length c = search needs
 
 returns-3 : tie.Need-returns-3
 returns-3 c =
@@ -51,11 +39,5 @@ pub replace-section-spec : {M : Type 1} → statement M
 replace-section-spec =
     tie.close
     (tie.spec
-    returns
-    octet-count-requires
-    enum-told
-    enum-known-size
-    replace-packed-requires
-    returns-2
-    same-length
-    returns-3)
+    returns (λ c κs. search needs) (λ c. search needs) (λ c. search needs) replace-packed-requires returns-2
+    (λ c. search needs) returns-3)

@@ -11,15 +11,6 @@ use borrow.Author.Needs.{needs}
 use Rattle.cbf_sections.proofs.asked.octets.Statement.{statement}
 use Rattle.cbf_sections.proofs.asked.octets.Tie as tie
 
-octets-at-requires : tie.Need-octets-at-requires
-octets-at-requires c κs = search needs
-
-enum-known-place : tie.Need-enum-known-place
-enum-known-place c = search needs
-
-enum-known-place-2 : tie.Need-enum-known-place-2
-enum-known-place-2 c = search needs
-
 -- the part of the file at the place that was answered
 part : (m : tie.After-octets-at) {x : OctetsPlace} → m .octets-at .result ≡ x → PartFor (now (m .before .before .args .file)) (octetsPart (F.read (m .before .before .args .limit) (now (m .before .before .args .file))) (m .before .before .args .number)) x
 part m e =
@@ -55,11 +46,5 @@ pub octets-spec : {M : Type 1} → statement M
 octets-spec =
     tie.close
     (tie.spec
-    octets-at-requires
-    enum-known-place
-    enum-known-place-2
-    add-to
-    sub-result
-    part-result-start
-    part-result-end
-    returns)
+    (λ c κs. search needs) (λ c. search needs) (λ c. search needs) add-to sub-result part-result-start
+    part-result-end returns)

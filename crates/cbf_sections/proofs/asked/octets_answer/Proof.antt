@@ -9,15 +9,6 @@ use borrow.Author.Needs.{needs}
 use Rattle.cbf_sections.proofs.asked.octets_answer.Statement.{statement}
 use Rattle.cbf_sections.proofs.asked.octets_answer.Tie as tie
 
-octets-at-requires : tie.Need-octets-at-requires
-octets-at-requires c κs = search needs
-
-enum-known-place : tie.Need-enum-known-place
-enum-known-place c = search needs
-
-enum-known-place-2 : tie.Need-enum-known-place-2
-enum-known-place-2 c = search needs
-
 -- what is answered for each place
 said : (m : tie.After-octets-at) {x : OctetsPlace} → m .octets-at .result ≡ x
     → placeSays x ≡ octetsOutcome (F.read (m .before .before .args .limit) (now (m .before .before .args .file))) (m .before .before .args .number)
@@ -31,4 +22,6 @@ returns-2 c = said (c .before .before .before) (c .before .place2 .given .1)
 
 pub octets-answer-spec : {M : Type 1} → statement M
 octets-answer-spec =
-    tie.close (tie.spec octets-at-requires enum-known-place enum-known-place-2 returns returns-2)
+    tie.close
+    (tie.spec
+    (λ c κs. search needs) (λ c. search needs) (λ c. search needs) returns returns-2)

@@ -9,21 +9,6 @@ use borrow.Author.Needs.{needs}
 use Rattle.cbf_sections.proofs.asked.octets_at.Statement.{statement}
 use Rattle.cbf_sections.proofs.asked.octets_at.Tie as tie
 
-numbered-section-requires : tie.Need-numbered-section-requires
-numbered-section-requires c κs = search needs
-
-enum-known-numbered : tie.Need-enum-known-numbered
-enum-known-numbered c = search needs
-
-enum-known-numbered-2 : tie.Need-enum-known-numbered-2
-enum-known-numbered-2 c = search needs
-
-enum-told : tie.Need-enum-told
-enum-told c = search needs
-
-enum-told-2 : tie.Need-enum-told-2
-enum-told-2 c = search needs
-
 -- the place for each answer of the reader
 said : (m : tie.After-numbered-section) {x : Numbered} → m .numbered-section .result ≡ x
     → placeIn x ≡ octetsPlace (F.read (m .before .before .args .limit) (now (m .before .before .args .file))) (m .before .before .args .number)
@@ -44,11 +29,5 @@ pub octets-at-spec : {M : Type 1} → statement M
 octets-at-spec =
     tie.close
     (tie.spec
-    numbered-section-requires
-    enum-known-numbered
-    enum-known-numbered-2
-    enum-told
-    enum-told-2
-    returns
-    returns-2
-    returns-3)
+    (λ c κs. search needs) (λ c. search needs) (λ c. search needs) (λ c. search needs) (λ c. search needs)
+    returns returns-2 returns-3)

@@ -9,15 +9,6 @@ use borrow.Author.Needs.{needs}
 use Rattle.cbf_sections.proofs.asked.read.Statement.{statement}
 use Rattle.cbf_sections.proofs.asked.read.Tie as tie
 
-count-sections-requires : tie.Need-count-sections-requires
-count-sections-requires c κs = search needs
-
-enum-known-count : tie.Need-enum-known-count
-enum-known-count c = search needs
-
-enum-known-count-2 : tie.Need-enum-known-count-2
-enum-known-count-2 c = search needs
-
 -- what is answered for each count
 said : (m : tie.After-count-sections) {x : Count} → m .count-sections .result ≡ x
     → countSays x ≡ readOutcome (F.read (m .before .before .args .limit) (now (m .before .before .args .file)))
@@ -32,4 +23,5 @@ returns-2 c = said (c .before .before .before) (c .before .count2 .given .1)
 pub read-spec : {M : Type 1} → statement M
 read-spec =
     tie.close
-    (tie.spec count-sections-requires enum-known-count enum-known-count-2 returns returns-2)
+    (tie.spec
+    (λ c κs. search needs) (λ c. search needs) (λ c. search needs) returns returns-2)

@@ -6,13 +6,10 @@ use borrow.Author.Needs.{needs}
 use Rattle.cbf_sections.proofs.asked.section.Statement.{statement}
 use Rattle.cbf_sections.proofs.asked.section.Tie as tie
 
-numbered-section-requires : tie.Need-numbered-section-requires
-numbered-section-requires c κs = search needs
-
 returns : tie.Need-returns
 returns c =
     let a = c .before .before .args in
     section-fields (now (a .file)) (a .number) (F.read (a .limit) (now (a .file))) (c .numbered-section .result) (c .numbered-section .ensures)
 
 pub section-spec : {M : Type 1} → statement M
-section-spec = tie.close (tie.spec numbered-section-requires returns)
+section-spec = tie.close (tie.spec (λ c κs. search needs) returns)

@@ -8,12 +8,6 @@ use borrow.Author.Needs.{needs}
 use Rattle.cbf_sections.proofs.frame.placed.Statement.{statement}
 use Rattle.cbf_sections.proofs.frame.placed.Tie as tie
 
-enum-known-answer : tie.Need-enum-known-answer
-enum-known-answer c = search needs
-
-enum-known-answer-2 : tie.Need-enum-known-answer-2
-enum-known-answer-2 c = search needs
-
 returns : tie.Need-returns
 returns c =
     let b = c .before .before .before in
@@ -33,5 +27,4 @@ returns-3 c =
     placed-other (a .first) (b .answer2 .given .0 .0) (c .if1 .left) ∙ ap (λ (x : Answer). placedAt (a .first) (outcome x)) (sym (b .answer2 .given .1))
 
 pub placed-spec : {M : Type 1} → statement M
-placed-spec =
-    tie.close (tie.spec enum-known-answer enum-known-answer-2 returns returns-2 returns-3)
+placed-spec = tie.close (tie.spec (λ c. search needs) (λ c. search needs) returns returns-2 returns-3)

@@ -13,15 +13,6 @@ use borrow.Author.Needs.{needs}
 use Rattle.cbf_sections.proofs.frame.unpack.Statement.{statement}
 use Rattle.cbf_sections.proofs.frame.unpack.Tie as tie
 
-numbered-section-requires : tie.Need-numbered-section-requires
-numbered-section-requires c κs = search needs
-
-enum-known-numbered : tie.Need-enum-known-numbered
-enum-known-numbered c = search needs
-
-enum-known-numbered-2 : tie.Need-enum-known-numbered-2
-enum-known-numbered-2 c = search needs
-
 -- what the reader says of each answer of its own
 said : (m : tie.After-numbered-section) {x : Numbered} → m .numbered-section .result ≡ x
     → NumberedSays (now (m .before .before .args .file)) (m .before .before .args .number) (F.read (m .before .before .args .limit) (now (m .before .before .args .file))) x
@@ -44,18 +35,12 @@ unpack-octets-requires c κs =
     let f = framed (c .before .before) in
     (f .0, f .2)
 
-placed-requires : tie.Need-placed-requires
-placed-requires c κs = search needs
-
 returns : tie.Need-returns
 returns c =
     let b = c .before in
     let m = b .before .before in
     let a = m .before .before .args in
     frame-refused (now (a .file)) (a .number) (F.read (a .limit) (now (a .file))) (b .numbered .given .0 .0) (now (a .out)) (said m (b .numbered .given .1))
-
-same-length : tie.Need-same-length
-same-length c = search needs
 
 returns-2 : tie.Need-returns-2
 returns-2 c =
@@ -71,11 +56,5 @@ pub unpack-spec : {M : Type 1} → statement M
 unpack-spec =
     tie.close
     (tie.spec
-    numbered-section-requires
-    enum-known-numbered
-    enum-known-numbered-2
-    unpack-octets-requires
-    placed-requires
-    returns
-    same-length
-    returns-2)
+    (λ c κs. search needs) (λ c. search needs) (λ c. search needs) unpack-octets-requires
+    (λ c κs. search needs) returns (λ c. search needs) returns-2)

@@ -6,26 +6,11 @@ use borrow.Author.Needs.{needs}
 use Rattle.cbf_sections.proofs.frame.unpack_octets.Statement.{statement}
 use Rattle.cbf_sections.proofs.frame.unpack_octets.Tie as tie
 
-enum-told : tie.Need-enum-told
-enum-told c = search needs
-
 add-unpack : tie.Need-add-unpack
 add-unpack c = let b = frame-binary (c .before .before .before .before .pre .1) (c .enum-told .given .1) in omega (arith, b .high)
 
-sub-unpack : tie.Need-sub-unpack
-sub-unpack c = search needs
-
-part-unpack-start : tie.Need-part-unpack-start
-part-unpack-start c = search needs
-
 part-unpack-end : tie.Need-part-unpack-end
 part-unpack-end c = let b = frame-binary (c .before .before .before .before .pre .1) (c .enum-told .given .1) in omega (arith, b .high)
-
-unpack-requires : tie.Need-unpack-requires
-unpack-requires c κs = search needs
-
-enum-told-2 : tie.Need-enum-told-2
-enum-told-2 c = search needs
 
 sub-unpack-2 : tie.Need-sub-unpack-2
 sub-unpack-2 c = frame-text (c .before .before .before .before .before .pre .1) (c .before .enum-told2 .given .1) .long
@@ -33,17 +18,11 @@ sub-unpack-2 c = frame-text (c .before .before .before .before .before .pre .1) 
 unpack-requires-2 : tie.Need-unpack-requires-2
 unpack-requires-2 c κs = frame-text (c .before .before .before .before .before .before .pre .1) (c .before .before .enum-told2 .given .1) .fits
 
-same-length : tie.Need-same-length
-same-length c = search needs
-
 returns : tie.Need-returns
 returns c =
     let b = c .before .before .before .before in
     let a = b .before .before .before .before .args in
     said-of (now (a .out)) (λ p f. part-taken (frame-binary f (b .enum-told .given .1))) (c .before .unpack .ensures)
-
-same-length-2 : tie.Need-same-length-2
-same-length-2 c = search needs
 
 returns-2 : tie.Need-returns-2
 returns-2 c =
@@ -55,16 +34,6 @@ pub unpack-octets-spec : {M : Type 1} → statement M
 unpack-octets-spec =
     tie.close
     (tie.spec
-    enum-told
-    add-unpack
-    sub-unpack
-    part-unpack-start
-    part-unpack-end
-    unpack-requires
-    enum-told-2
-    sub-unpack-2
-    unpack-requires-2
-    same-length
-    returns
-    same-length-2
-    returns-2)
+    (λ c. search needs) add-unpack (λ c. search needs) (λ c. search needs) part-unpack-end
+    (λ c κs. search needs) (λ c. search needs) sub-unpack-2 unpack-requires-2 (λ c. search needs) returns
+    (λ c. search needs) returns-2)

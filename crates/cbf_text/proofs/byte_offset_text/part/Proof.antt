@@ -8,9 +8,6 @@ use Rattle.cbf_text.proofs.byte_offset_text.part.Tie as tie
 fill-part-requires : tie.Need-fill-part-requires
 fill-part-requires c κs = let p = c .before .before .before .pre in let f = p .2 (c .before .if1 .taken) in (f .0, p .1, f .1)
 
-same-length : tie.Need-same-length
-same-length c = search needs
-
 returns : tie.Need-returns
 returns c = record { valid = λ e. never (sym e ∙ c .before .before .before .if1 .taken); filled = λ _. c .before .fill-part .ensures }
 
@@ -22,4 +19,6 @@ returns-2 c = record { valid = λ _. (c .validate-part .ensures, refl); filled =
 
 pub part-spec : {M : Type 1} → statement M
 part-spec =
-    tie.close (tie.spec fill-part-requires same-length returns validate-part-requires returns-2)
+    tie.close
+    (tie.spec
+    fill-part-requires (λ c. search needs) returns validate-part-requires returns-2)

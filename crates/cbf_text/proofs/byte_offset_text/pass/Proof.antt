@@ -123,21 +123,6 @@ pub pass-spec : {M : Type 1} → statement M
 pass-spec =
     tie.close
     (tie.spec
-    Inv-loop
-    μ-loop
-    loop-holds
-    slice-aggregate-refill
-    refill-requires
-    array-share-prefix-window
-    slice-aggregate-part
-    sub-part
-    part-requires
-    same-length
-    returns
-    add-k
-    loop-less
-    loop-again
-    same-length-2
-    returns-2
-    same-length-3
-    returns-3)
+    Inv-loop μ-loop loop-holds slice-aggregate-refill refill-requires array-share-prefix-window
+    slice-aggregate-part sub-part part-requires same-length returns add-k loop-less loop-again same-length-2
+    returns-2 same-length-3 returns-3)

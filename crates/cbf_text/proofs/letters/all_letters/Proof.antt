@@ -19,20 +19,8 @@ abbrev μ-loop : tie.MeasureT-loop
 loop-holds : tie.Need-loop-holds Inv-loop μ-loop
 loop-holds c = (omega arith, λ e i h k. absurd (omega arith))
 
-add-letter : tie.Need-add-letter Inv-loop μ-loop
-add-letter c = omega arith
-
-shared-slice-read-letter : tie.Need-shared-slice-read-letter Inv-loop μ-loop
-shared-slice-read-letter c = omega arith
-
 letter-requires : tie.Need-letter-requires Inv-loop μ-loop
 letter-requires c κs = c .before .before .before .before .pre .1 _ (omega arith) (omega arith)
-
-add-j : tie.Need-add-j Inv-loop μ-loop
-add-j c = omega arith
-
-loop-less : tie.Need-loop-less Inv-loop μ-loop
-loop-less c = omega arith
 
 loop-again : tie.Need-loop-again Inv-loop μ-loop
 loop-again c =
@@ -50,13 +38,5 @@ pub all-letters-spec : {M : Type 1} → statement M
 all-letters-spec =
     tie.close
     (tie.spec
-    Inv-loop
-    μ-loop
-    loop-holds
-    add-letter
-    shared-slice-read-letter
-    letter-requires
-    add-j
-    loop-less
-    loop-again
-    returns)
+    Inv-loop μ-loop loop-holds (λ c. omega arith) (λ c. omega arith) letter-requires (λ c. omega arith)
+    (λ c. omega arith) loop-again returns)

@@ -8,17 +8,8 @@ use Rattle.cbf_text.proofs.TextLetters.{letter-small, sixes-empty, sixe
 use Rattle.cbf_text.proofs.letters.next_letter.Statement.{statement}
 use Rattle.cbf_text.proofs.letters.next_letter.Tie as tie
 
-next-place-requires : tie.Need-next-place-requires
-next-place-requires c κs = search needs
-
-shared-slice-read-number-of : tie.Need-shared-slice-read-number-of
-shared-slice-read-number-of c = search needs
-
 number-of-requires : tie.Need-number-of-requires
 number-of-requires c κs = c .before .before .next-place .ensures .3 (c .before .if1 .taken)
-
-add-t9 : tie.Need-add-t9
-add-t9 c = search needs
 
 returns : tie.Need-returns
 returns c =
@@ -48,9 +39,4 @@ pub next-letter-spec : {M : Type 1} → statement M
 next-letter-spec =
     tie.close
     (tie.spec
-    next-place-requires
-    shared-slice-read-number-of
-    number-of-requires
-    add-t9
-    returns
-    returns-2)
+    (λ c κs. search needs) (λ c. search needs) number-of-requires (λ c. search needs) returns returns-2)

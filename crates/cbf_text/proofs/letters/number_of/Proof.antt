@@ -29,9 +29,6 @@ last c =
 add-n : tie.Need-add-n
 add-n c = omega (arith, letter-number (c .args .b) (omega arith) (c .pre) .0)
 
-sub-n : tie.Need-sub-n
-sub-n c = search needs
-
 sub-n-2 : tie.Need-sub-n-2
 sub-n-2 c = omega (arith, first (c .before .before) .1)
 
@@ -48,4 +45,4 @@ returns-2 : tie.Need-returns-2
 returns-2 c = let j = c .before in rw (le-ltb 96 (j .before .before .before .args .b) (c .if4 .left)) at (last j)
 
 pub number-of-spec : {M : Type 1} → statement M
-number-of-spec = tie.close (tie.spec add-n sub-n sub-n-2 sub-n-3 sub-n-4 returns returns-2)
+number-of-spec = tie.close (tie.spec add-n (λ c. search needs) sub-n-2 sub-n-3 sub-n-4 returns returns-2)

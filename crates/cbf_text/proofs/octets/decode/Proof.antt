@@ -80,22 +80,6 @@ pub decode-spec : {M : Type 1} → statement M
 decode-spec =
     tie.close
     (tie.spec
-    Inv-loop
-    μ-loop
-    loop-holds
-    sub-loop
-    next-place-requires
-    same-length
-    returns
-    decode-run-requires
-    decode-group-requires
-    (λ c. omega arith)
-    loop-less
-    loop-again
-    (λ c. omega arith)
-    (λ c. omega arith)
-    (λ c. omega arith)
-    (λ c. omega arith)
-    loop-again-2
-    same-length-2
-    returns-2)
+    Inv-loop μ-loop loop-holds sub-loop next-place-requires same-length returns decode-run-requires
+    decode-group-requires (λ c. omega arith) loop-less loop-again (λ c. omega arith) (λ c. omega arith)
+    (λ c. omega arith) (λ c. omega arith) loop-again-2 same-length-2 returns-2)

@@ -29,10 +29,5 @@ pub decode-group-spec : {M : Type 1} → statement M
 decode-group-spec =
     tie.close
     (tie.spec
-    (λ c κs. search needs)
-    next-letter-requires-2
-    next-letter-requires-3
-    next-letter-requires-4
-    (λ c κs. search needs)
-    (λ c. search needs)
-    returns)
+    (λ c κs. search needs) next-letter-requires-2 next-letter-requires-3 next-letter-requires-4
+    (λ c κs. search needs) (λ c. search needs) returns)

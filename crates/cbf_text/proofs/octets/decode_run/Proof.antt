@@ -53,18 +53,6 @@ pub decode-run-spec : {M : Type 1} → statement M
 decode-run-spec =
     tie.close
     (tie.spec
-    (λ c. search needs)
-    (λ c. search needs)
-    (λ c. search needs)
-    (λ c κs. search needs)
-    (λ c κs. search needs)
-    (λ c. search needs)
-    after-letters-requires
-    after-letters-requires-2
-    (λ c. search needs)
-    (λ c. search needs)
-    numbers-of-requires
-    (λ c. search needs)
-    join-requires
-    (λ c. search needs)
-    returns)
+    (λ c. search needs) (λ c. search needs) (λ c. search needs) (λ c κs. search needs) (λ c κs. search needs)
+    (λ c. search needs) after-letters-requires after-letters-requires-2 (λ c. search needs)
+    (λ c. search needs) numbers-of-requires (λ c. search needs) join-requires (λ c. search needs) returns)

@@ -11,26 +11,8 @@ Inv-loop window₀ next have n j₀ window j = (j ≤ n) × Slid next j window�
 abbrev μ-loop : tie.MeasureT-loop
 μ-loop window₀ next have n j₀ window j = n - j
 
-sub-n : tie.Need-sub-n Inv-loop μ-loop
-sub-n c = omega arith
-
 loop-holds : tie.Need-loop-holds Inv-loop μ-loop
 loop-holds c = (omega arith, slid-none _ _)
-
-add-window : tie.Need-add-window Inv-loop μ-loop
-add-window c = omega arith
-
-slice-read-window : tie.Need-slice-read-window Inv-loop μ-loop
-slice-read-window c = omega arith
-
-slice-write-window : tie.Need-slice-write-window Inv-loop μ-loop
-slice-write-window c = omega arith
-
-add-j : tie.Need-add-j Inv-loop μ-loop
-add-j c = omega arith
-
-loop-less : tie.Need-loop-less Inv-loop μ-loop
-loop-less c = omega arith
 
 loop-again : tie.Need-loop-again Inv-loop μ-loop
 loop-again c =
@@ -52,15 +34,5 @@ pub slide-spec : {M : Type 1} → statement M
 slide-spec =
     tie.close
     (tie.spec
-    Inv-loop
-    μ-loop
-    sub-n
-    loop-holds
-    add-window
-    slice-read-window
-    slice-write-window
-    add-j
-    loop-less
-    loop-again
-    same-length
-    returns)
+    Inv-loop μ-loop (λ c. omega arith) loop-holds (λ c. omega arith) (λ c. omega arith) (λ c. omega arith)
+    (λ c. omega arith) (λ c. omega arith) loop-again same-length returns)

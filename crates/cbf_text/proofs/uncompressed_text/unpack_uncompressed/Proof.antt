@@ -37,9 +37,6 @@ refill-requires c κs =
     let L = c .before .before .loop .inv .1 in
     (p .1, (λ i g h. p .2 i (omega arith) h), L .holds)
 
-sub-least : tie.Need-sub-least Inv-loop μ-loop
-sub-least c = omega arith
-
 div-least : tie.Need-div-least Inv-loop μ-loop
 div-least c = omega (arith, has-octets (c .before .before .before .before .before .before .before .before .args .kind))
 
@@ -67,23 +64,8 @@ array-share-prefix-window c = omega (arith, turn c .0)
 slice-aggregate-unpack : tie.Need-slice-aggregate-unpack Inv-loop μ-loop
 slice-aggregate-unpack c = sym (length-take-le _ _ (omega (arith, turn (c .before) .0)))
 
-mul-unpack : tie.Need-mul-unpack Inv-loop μ-loop
-mul-unpack c = omega arith
-
-sub-unpack : tie.Need-sub-unpack Inv-loop μ-loop
-sub-unpack c = omega arith
-
-part-unpack-start : tie.Need-part-unpack-start Inv-loop μ-loop
-part-unpack-start c = omega arith
-
-part-unpack-end : tie.Need-part-unpack-end Inv-loop μ-loop
-part-unpack-end c = omega arith
-
 unpack-requires : tie.Need-unpack-requires Inv-loop μ-loop
 unpack-requires c κs = tt
-
-add-k : tie.Need-add-k Inv-loop μ-loop
-add-k c = omega arith
 
 loop-less : tie.Need-loop-less Inv-loop μ-loop
 loop-less c = omega (arith, turn (c .before .before .before .before) .1)
@@ -114,25 +96,7 @@ pub unpack-uncompressed-spec : {M : Type 1} → statement M
 unpack-uncompressed-spec =
     tie.close
     (tie.spec
-    Inv-loop
-    μ-loop
-    octets-per-requires
-    loop-holds
-    slice-aggregate-refill
-    refill-requires
-    sub-least
-    div-least
-    least-requires
-    mul-used
-    array-share-prefix-window
-    slice-aggregate-unpack
-    mul-unpack
-    sub-unpack
-    part-unpack-start
-    part-unpack-end
-    unpack-requires
-    add-k
-    loop-less
-    loop-again
-    same-length
-    returns)
+    Inv-loop μ-loop octets-per-requires loop-holds slice-aggregate-refill refill-requires (λ c. omega arith)
+    div-least least-requires mul-used array-share-prefix-window slice-aggregate-unpack (λ c. omega arith)
+    (λ c. omega arith) (λ c. omega arith) (λ c. omega arith) unpack-requires (λ c. omega arith) loop-less
+    loop-again same-length returns)

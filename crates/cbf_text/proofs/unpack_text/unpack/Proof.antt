@@ -24,12 +24,6 @@ use Rattle.cbf_text.proofs.unpack_text.unpack.Tie as tie
 uncompressed-unpacks : (t : ElementType) (n size : ℕ) (os : List ℕ) → size ≡ n * octetsPer t → size ≤ length os → isSome (unpackPixels Uncompressed t n (take size os)) ≡ true
 uncompressed-unpacks t n size os e h = uncompressed-some t n (octetsPer t) (take size os) refl (all-octets t n size os e h)
 
-enum-told : tie.Need-enum-told
-enum-told c = search needs
-
-refused-requires : tie.Need-refused-requires
-refused-requires c κs = search needs
-
 returns : tie.Need-returns
 unfolding Unpacked
 returns c =
@@ -45,19 +39,10 @@ unpack-uncompressed-requires c κs =
     let p = c .before .before .before .before .before .pre in
     (p .0, p .1, p .2, p .3, p .5 (c .before .before .enum-told .given .1), p .4, c .before .if1 .left)
 
-enum-told-2 : tie.Need-enum-told-2
-enum-told-2 c = search needs
-
 pass-requires : tie.Need-pass-requires
 pass-requires c κs =
     let p = c .before .before .before .before .pre in
     (p .0, p .1, p .2, p .3, never)
-
-refused-requires-2 : tie.Need-refused-requires-2
-refused-requires-2 c κs = search needs
-
-same-length : tie.Need-same-length
-same-length c = search needs
 
 returns-2 : tie.Need-returns-2
 unfolding Unpacked unpackPixels
@@ -67,12 +52,6 @@ returns-2 c =
     let E = c .before .before .before .pass .ensures in
     let u = unpack-bad ByteOffset (a .kind) (a .count) (take (a .size) (textOctets (a .file .now) (a .from) (a .to))) (a .out .now) (S .pre .4) (sym (E .0) ∙ not-true _ (c .before .if2 .taken)) in
     rw (c .before .before .before .before .before .enum-told2 .given .1) (c .refused2 .ensures ∙ u .0, E .1 ∙ u .1)
-
-refused-requires-3 : tie.Need-refused-requires-3
-refused-requires-3 c κs = search needs
-
-same-length-2 : tie.Need-same-length-2
-same-length-2 c = search needs
 
 returns-3 : tie.Need-returns-3
 unfolding Unpacked unpackPixels
@@ -88,9 +67,6 @@ pass-requires-2 c κs =
     let p = c .before .before .before .before .before .before .before .before .before .pre in
     (p .0, p .1, p .2, p .3, (λ z. (c .before .if3 .left, sym (c .before .before .before .before .pass .ensures .0) ∙ not-false _ (c .before .before .if2 .left))))
 
-same-length-3 : tie.Need-same-length-3
-same-length-3 c = search needs
-
 returns-4 : tie.Need-returns-4
 unfolding Unpacked unpackPixels
 returns-4 c =
@@ -99,9 +75,6 @@ returns-4 c =
     let e = c .before .before .before .before .enum-told .given .1 in
     let os = textOctets (a .file .now) (a .from) (a .to) in
     rw e (unpack-done Uncompressed (a .kind) (a .count) (take (a .size) os) (a .out .now) _ (S .pre .4) (uncompressed-unpacks (a .kind) (a .count) (a .size) os (S .pre .5 e) (S .pre .3)) (c .before .before .before .if1 .left) (c .before .unpack-uncompressed .ensures))
-
-same-length-4 : tie.Need-same-length-4
-same-length-4 c = search needs
 
 returns-5 : tie.Need-returns-5
 unfolding Unpacked unpackPixels
@@ -117,20 +90,6 @@ pub unpack-spec : {M : Type 1} → statement M
 unpack-spec =
     tie.close
     (tie.spec
-    enum-told
-    refused-requires
-    returns
-    unpack-uncompressed-requires
-    enum-told-2
-    pass-requires
-    refused-requires-2
-    same-length
-    returns-2
-    refused-requires-3
-    same-length-2
-    returns-3
-    pass-requires-2
-    same-length-3
-    returns-4
-    same-length-4
-    returns-5)
+    (λ c. search needs) (λ c κs. search needs) returns unpack-uncompressed-requires (λ c. search needs)
+    pass-requires (λ c κs. search needs) (λ c. search needs) returns-2 (λ c κs. search needs)
+    (λ c. search needs) returns-3 pass-requires-2 (λ c. search needs) returns-4 (λ c. search needs) returns-5)

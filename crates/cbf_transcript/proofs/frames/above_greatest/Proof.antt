@@ -9,9 +9,8 @@ pub above-greatest-spec : {M : Type 1} → statement M
 above-greatest-spec =
     tie.close
     (tie.spec
-    (λ c. search needs) (λ c. search needs) (λ c. search needs)
-    (λ c. search needs) (λ c. search needs) (λ c. search needs)
-    (λ c. sym (ap aboveGreatest (c .enum-told .given .1)))
+    (λ c. search needs) (λ c. search needs) (λ c. search needs) (λ c. search needs) (λ c. search needs)
+    (λ c. search needs) (λ c. sym (ap aboveGreatest (c .enum-told .given .1)))
     (λ c. sym (ap aboveGreatest (c .enum-told2 .given .1)))
     (λ c. sym (ap aboveGreatest (c .enum-told3 .given .1)))
     (λ c. sym (ap aboveGreatest (c .enum-told4 .given .1)))

@@ -15,26 +15,14 @@ abbrev μ-loop : tie.MeasureT-loop
 loop-holds : tie.Need-loop-holds Inv-loop μ-loop
 loop-holds c = (omega arith, refl)
 
-cast-set : tie.Need-cast-set Inv-loop μ-loop
-cast-set c = omega arith
-
 pixel-of-requires : tie.Need-pixel-of-requires Inv-loop μ-loop
 pixel-of-requires c κs = tt
 
 set-requires : tie.Need-set-requires Inv-loop μ-loop
 set-requires c κs = tt
 
-add-i : tie.Need-add-i Inv-loop μ-loop
-add-i c = omega arith
-
-loop-less : tie.Need-loop-less Inv-loop μ-loop
-loop-less c = omega arith
-
 loop-again : tie.Need-loop-again Inv-loop μ-loop
 loop-again c = (omega arith, omega (arith, c .before .set .kept .0))
-
-same-length : tie.Need-same-length Inv-loop μ-loop
-same-length c = omega arith
 
 returns : tie.Need-returns Inv-loop μ-loop
 returns c = tt
@@ -43,14 +31,5 @@ pub fill-spec : {M : Type 1} → statement M
 fill-spec =
     tie.close
     (tie.spec
-    Inv-loop
-    μ-loop
-    loop-holds
-    cast-set
-    pixel-of-requires
-    set-requires
-    add-i
-    loop-less
-    loop-again
-    same-length
-    returns)
+    Inv-loop μ-loop loop-holds (λ c. omega arith) pixel-of-requires set-requires (λ c. omega arith)
+    (λ c. omega arith) loop-again (λ c. omega arith) returns)

@@ -15,27 +15,6 @@ use borrow.Author.Needs.{needs}
 use Rattle.cbf_transcript.proofs.frames.pixel_of_style_1.Statement.{statement}
 use Rattle.cbf_transcript.proofs.frames.pixel_of_style_1.Tie as tie
 
-mul-n : tie.Need-mul-n
-mul-n c = search needs
-
-mul-n-2 : tie.Need-mul-n-2
-mul-n-2 c = search needs
-
-add-n : tie.Need-add-n
-add-n c = search needs
-
-add-n-2 : tie.Need-add-n-2
-add-n-2 c = search needs
-
-numbers-of-requires : tie.Need-numbers-of-requires
-numbers-of-requires c κs = search needs
-
-rem-n : tie.Need-rem-n
-rem-n c = search needs
-
-least-of-requires : tie.Need-least-of-requires
-least-of-requires c κs = search needs
-
 -- the number in the type
 abbrev stepped : (c : tie.After-least-of) → ℕ
 stepped c = (c .before .before .args .i * 7919 + c .before .before .args .number * 104729 + 17) % c .before .numbers-of .result
@@ -69,13 +48,5 @@ pub pixel-of-style-1-spec : {M : Type 1} → statement M
 pixel-of-style-1-spec =
     tie.close
     (tie.spec
-    mul-n
-    mul-n-2
-    add-n
-    add-n-2
-    numbers-of-requires
-    rem-n
-    least-of-requires
-    cast-result
-    add-result
-    returns)
+    (λ c. search needs) (λ c. search needs) (λ c. search needs) (λ c. search needs) (λ c κs. search needs)
+    (λ c. search needs) (λ c κs. search needs) cast-result add-result returns)

@@ -18,11 +18,8 @@ mul-result c = omega (arith, square (c .args .i) (omega arith))
 add-result : tie.Need-add-result
 add-result c = omega (arith, square (c .args .i) (omega arith))
 
-cast-result : tie.Need-cast-result
-cast-result c = search needs
-
 returns : tie.Need-returns
 returns c = toZ-pos w64 (omega arith)
 
 pub pixel-of-style-2-spec : {M : Type 1} → statement M
-pixel-of-style-2-spec = tie.close (tie.spec mul-result add-result cast-result returns)
+pixel-of-style-2-spec = tie.close (tie.spec mul-result add-result (λ c. search needs) returns)

@@ -58,5 +58,4 @@ returns-3 c =
     (ap (λ (z : ℤ). natAbs z + 2147483648) (same c) ∙ lifted-from (c .before .args .pixel) (positive c), omega (arith, small c))
 
 pub lifted-spec : {M : Type 1} → statement M
-lifted-spec =
-    tie.close (tie.spec sub-below cast-below returns returns-2 cast-result add-result returns-3)
+lifted-spec = tie.close (tie.spec sub-below cast-below returns returns-2 cast-result add-result returns-3)

@@ -20,23 +20,11 @@ abbrev μ-loop : tie.MeasureT-loop
 loop-holds : tie.Need-loop-holds Inv-loop μ-loop
 loop-holds c = (omega arith, omega arith, refl)
 
-mul-lifted : tie.Need-mul-lifted Inv-loop μ-loop
-mul-lifted c = omega arith
-
-shared-slice-copy-out-lifted : tie.Need-shared-slice-copy-out-lifted Inv-loop μ-loop
-shared-slice-copy-out-lifted c = omega arith
-
 lifted-requires : tie.Need-lifted-requires Inv-loop μ-loop
 lifted-requires c κs = tt
 
 next-requires : tie.Need-next-requires Inv-loop μ-loop
 next-requires c κs = (omega arith, omega (arith, c .lifted .ensures .1))
-
-add-i : tie.Need-add-i Inv-loop μ-loop
-add-i c = omega arith
-
-loop-less : tie.Need-loop-less Inv-loop μ-loop
-loop-less c = omega arith
 
 loop-again : tie.Need-loop-again Inv-loop μ-loop
 loop-again c =
@@ -57,14 +45,5 @@ pub of-pixels-spec : {M : Type 1} → statement M
 of-pixels-spec =
     tie.close
     (tie.spec
-    Inv-loop
-    μ-loop
-    loop-holds
-    mul-lifted
-    shared-slice-copy-out-lifted
-    lifted-requires
-    next-requires
-    add-i
-    loop-less
-    loop-again
-    returns)
+    Inv-loop μ-loop loop-holds (λ c. omega arith) (λ c. omega arith) lifted-requires next-requires
+    (λ c. omega arith) (λ c. omega arith) loop-again returns)

@@ -39,9 +39,6 @@ sub-copy-block c = omega (arith, c .before .before .loop .inv .within)
 copy-block-requires-2 : tie.Need-copy-block-requires-2 Inv-loop μ-loop
 copy-block-requires-2 c κs = let v = c .before .before .loop .inv in (omega (arith, v .within), omega (arith, v .within), omega (arith, copied-length v))
 
-add-result : tie.Need-add-result Inv-loop μ-loop
-add-result c = omega arith
-
 -- all bytes are copied
 last : (c : tie.After-copy-block2 Inv-loop μ-loop)
     → let a = c .before .before .before .before .before .before .args in Copied (a .out .now) (a .at) (a .bytes .now) (c .copy-block2 .last .0) (c .copy-block2 .result)
@@ -62,15 +59,5 @@ pub copy-spec : {M : Type 1} → statement M
 copy-spec =
     tie.close
     (tie.spec
-    Inv-loop
-    μ-loop
-    loop-holds
-    sub-loop
-    copy-block-requires
-    loop-less
-    loop-again
-    sub-copy-block
-    copy-block-requires-2
-    add-result
-    same-length
-    returns)
+    Inv-loop μ-loop loop-holds sub-loop copy-block-requires loop-less loop-again sub-copy-block
+    copy-block-requires-2 (λ c. omega arith) same-length returns)

@@ -23,26 +23,8 @@ Inv-loop2 out₀ at bytes i n held j k₀ out k = (k ≤ n) × (out ≡ sets out
 abbrev μ-loop2 : tie.MeasureT-loop2
 μ-loop2 out₀ at bytes i n held j k₀ out k = n - k
 
-block-requires : tie.Need-block-requires Inv-loop μ-loop Inv-loop2 μ-loop2
-block-requires c κs = search needs
-
 loop-holds : tie.Need-loop-holds Inv-loop μ-loop Inv-loop2 μ-loop2
 loop-holds c = (omega arith, c .block .ensures, λ k h. absurd (omega arith))
-
-add-held : tie.Need-add-held Inv-loop μ-loop Inv-loop2 μ-loop2
-add-held c = omega arith
-
-shared-slice-read-held : tie.Need-shared-slice-read-held Inv-loop μ-loop Inv-loop2 μ-loop2
-shared-slice-read-held c = omega arith
-
-array-write-held : tie.Need-array-write-held Inv-loop μ-loop Inv-loop2 μ-loop2
-array-write-held c = omega arith
-
-add-j : tie.Need-add-j Inv-loop μ-loop Inv-loop2 μ-loop2
-add-j c = omega arith
-
-loop-less : tie.Need-loop-less Inv-loop μ-loop Inv-loop2 μ-loop2
-loop-less c = omega arith
 
 loop-again : tie.Need-loop-again Inv-loop μ-loop Inv-loop2 μ-loop2
 loop-again c =
@@ -57,26 +39,11 @@ loop-again c =
 loop2-holds : tie.Need-loop2-holds Inv-loop μ-loop Inv-loop2 μ-loop2
 loop2-holds c = (omega arith, refl)
 
-array-read-out : tie.Need-array-read-out Inv-loop μ-loop Inv-loop2 μ-loop2
-array-read-out c = omega arith
-
-add-out : tie.Need-add-out Inv-loop μ-loop Inv-loop2 μ-loop2
-add-out c = omega arith
-
-add-out-2 : tie.Need-add-out-2 Inv-loop μ-loop Inv-loop2 μ-loop2
-add-out-2 c = omega arith
-
 slice-write-out : tie.Need-slice-write-out Inv-loop μ-loop Inv-loop2 μ-loop2
 slice-write-out c =
     let a = c .before .before .before .before .before .before .before .args in
     let l = c .before .loop2 in
     omega (arith, puts-length (l .out) (a .out .now) [] (take (l .k) (drop (a .i) (a .bytes .now))) (a .at + a .i) (l .inv .1))
-
-add-k : tie.Need-add-k Inv-loop μ-loop Inv-loop2 μ-loop2
-add-k c = omega arith
-
-loop2-less : tie.Need-loop2-less Inv-loop μ-loop Inv-loop2 μ-loop2
-loop2-less c = omega arith
 
 loop2-again : tie.Need-loop2-again Inv-loop μ-loop Inv-loop2 μ-loop2
 loop2-again c =
@@ -87,9 +54,6 @@ loop2-again c =
       rw (l .inv .1, held .inv .2 (l .k) (omega (arith, c .before .before .loop-test .left)), add-one)
           (sets-part (a .out .now) (a .bytes .now) (a .at + a .i) (a .i) (l .k) (omega arith)),
     )
-
-add-result : tie.Need-add-result Inv-loop μ-loop Inv-loop2 μ-loop2
-add-result c = omega arith
 
 same-length : tie.Need-same-length Inv-loop μ-loop Inv-loop2 μ-loop2
 same-length c =
@@ -108,26 +72,7 @@ pub copy-block-spec : {M : Type 1} → statement M
 copy-block-spec =
     tie.close
     (tie.spec
-    Inv-loop
-    μ-loop
-    Inv-loop2
-    μ-loop2
-    block-requires
-    loop-holds
-    add-held
-    shared-slice-read-held
-    array-write-held
-    add-j
-    loop-less
-    loop-again
-    loop2-holds
-    array-read-out
-    add-out
-    add-out-2
-    slice-write-out
-    add-k
-    loop2-less
-    loop2-again
-    add-result
-    same-length
-    returns)
+    Inv-loop μ-loop Inv-loop2 μ-loop2 (λ c κs. search needs) loop-holds (λ c. omega arith) (λ c. omega arith)
+    (λ c. omega arith) (λ c. omega arith) (λ c. omega arith) loop-again loop2-holds (λ c. omega arith)
+    (λ c. omega arith) (λ c. omega arith) slice-write-out (λ c. omega arith) (λ c. omega arith) loop2-again
+    (λ c. omega arith) same-length returns)

@@ -19,38 +19,17 @@ abbrev μ-loop : tie.MeasureT-loop
 loop-holds : tie.Need-loop-holds Inv-loop μ-loop
 loop-holds c = (omega arith, refl)
 
-add-out : tie.Need-add-out Inv-loop μ-loop
-add-out c = omega arith
-
-shared-slice-read-out : tie.Need-shared-slice-read-out Inv-loop μ-loop
-shared-slice-read-out c = omega arith
-
-add-out-2 : tie.Need-add-out-2 Inv-loop μ-loop
-add-out-2 c = omega arith
-
-add-out-3 : tie.Need-add-out-3 Inv-loop μ-loop
-add-out-3 c = omega arith
-
 slice-write-out : tie.Need-slice-write-out Inv-loop μ-loop
 slice-write-out c =
     let a = c .before .before .before .args in
     let l = c .before .before .loop in
     omega (arith, puts-length (l .out) (a .out .now) [] (take (l .j) (drop (a .i) (a .text .now))) (a .at + a .i) (l .inv .1))
 
-add-j : tie.Need-add-j Inv-loop μ-loop
-add-j c = omega arith
-
-loop-less : tie.Need-loop-less Inv-loop μ-loop
-loop-less c = omega arith
-
 loop-again : tie.Need-loop-again Inv-loop μ-loop
 loop-again c =
     let a = c .before .before .before .args in
     let l = c .before .before .loop in
     (omega arith, rw (l .inv .1, add-one) (sets-part (a .out .now) (a .text .now) (a .at + a .i) (a .i) (l .j) (omega arith)))
-
-add-result : tie.Need-add-result Inv-loop μ-loop
-add-result c = omega arith
 
 same-length : tie.Need-same-length Inv-loop μ-loop
 same-length c =
@@ -69,17 +48,5 @@ pub put-block-spec : {M : Type 1} → statement M
 put-block-spec =
     tie.close
     (tie.spec
-    Inv-loop
-    μ-loop
-    loop-holds
-    add-out
-    shared-slice-read-out
-    add-out-2
-    add-out-3
-    slice-write-out
-    add-j
-    loop-less
-    loop-again
-    add-result
-    same-length
-    returns)
+    Inv-loop μ-loop loop-holds (λ c. omega arith) (λ c. omega arith) (λ c. omega arith) (λ c. omega arith)
+    slice-write-out (λ c. omega arith) (λ c. omega arith) loop-again (λ c. omega arith) same-length returns)

@@ -96,19 +96,5 @@ pub put-short-spec : {M : Type 1} → statement M
 put-short-spec =
     tie.close
     (tie.spec
-    Inv-loop
-    μ-loop
-    loop-holds
-    sub-loop
-    put-block-requires
-    loop-less
-    loop-again
-    sub-if1
-    put-block-requires-2
-    sub-if2
-    put-block-requires-3
-    put-block-requires-4
-    same-length
-    returns
-    same-length-2
-    returns-2)
+    Inv-loop μ-loop loop-holds sub-loop put-block-requires loop-less loop-again sub-if1 put-block-requires-2
+    sub-if2 put-block-requires-3 put-block-requires-4 same-length returns same-length-2 returns-2)
