@@ -1,7 +1,7 @@
 // 192 octets at once where some are escapes but none stands within two behind another: each escape is then followed by the
 // two octets of its difference. What an octet adds to the pixel before it is a number of 16 bits: a plain octet its
 // difference, an octet two behind an escape the difference that ends there, any other octet 0.
-use crate::validate;
+use crate::far;
 ghost use mathlib.Core.Path.{_≡_};
 ghost use mathlib.Core.List.{List};
 ghost use Prim.Native.Nat.{ℕ, _+_, _*_, _-_, _<_, _≤_};
@@ -217,10 +217,10 @@ fn last_pixel(added: &mut [u16; 208], biased: u64, top: u64) -> u64
     requires { ⌜ Top top × Between top biased × (biasedLeast + 65535 ≤ top) × Addends (now added) ⌝ }
     ensures { λ r. ⌜ ((r ≡ 0 → ⊥) → Walk (now (added .entry)) biasedLeast top biased r) ⌝ }
 {
-    if validate::is_far(biased, top, 6291456) {
+    if far::is_far(biased, top, 6291456) {
         return biased + total(added) as u64 - 6291456;
     }
-    let base = validate::base_of(biased, top, 16384);
+    let base = far::base_of(biased, top, 16384);
     let above = near(added, (biased - base) as u16);
     if 32767 < above {
         return 0;

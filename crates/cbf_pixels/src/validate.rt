@@ -3,6 +3,8 @@ use crate::ElementType;
 use crate::Last;
 use crate::Part;
 use crate::difference;
+use crate::far;
+use crate::far::BIASED_LEAST;
 use crate::near;
 use crate::octets;
 use crate::plain;
@@ -17,8 +19,6 @@ ghost use Rattle.cbf_pixels.specs.Pixels.{within, least, greatest, unpac
 ghost use Rattle.cbf_pixels.specs.Answers.{isSome};
 ghost use Rattle.cbf_pixels.specs.Steps.{Plain, Glides, biasedLeast, biasedZero, biasedGreatest, pixelAt, Top, Between};
 ghost use Rattle.cbf_pixels.specs.Steps.{Base, Passes, Passed, Adds, Summable, ValidPart};
-
-const BIASED_LEAST: u64 = 1099511627776;
 
 fn biased_zero(kind: ElementType) -> u64
     ensures { λ r. ⌜ r ≡ biasedZero kind ⌝ }
@@ -133,20 +133,6 @@ fn at_most_1024(n: usize) -> usize
     if n < 1024 { n } else { 1024 }
 }
 
-// Where two halves of numbers of the type start, biased among them and as far from their ends as can be.
-pub fn base_of(biased: u64, top: u64, half: u64) -> u64
-    requires { ⌜ Top top × Between top biased × (0 < half) × (biasedLeast + 2 * half ≤ top + 1) ⌝ }
-    ensures { λ r. ⌜ Base top biased half r ⌝ }
-{
-    if biased < BIASED_LEAST + half {
-        return BIASED_LEAST;
-    }
-    if top < biased + half {
-        return top - (2 * half - 1);
-    }
-    biased - half
-}
-
 // The same, or 0 where it is not known: in each part of the run the pixels have to stay near the one before it.
 fn pass_near(octets: &[u8], i: usize, n: usize, biased: u64, top: u64) -> u64
     requires { ⌜ Top top × Between top biased × (i + n ≤ length (now octets)) × Plain (now octets) i n × (n % 32 ≡ 0) × (3 ≤ i) ⌝ }
@@ -156,7 +142,7 @@ fn pass_near(octets: &[u8], i: usize, n: usize, biased: u64, top: u64) -> u64
     let mut j: usize = 0;
     while j < n {
         let m = at_most_1024(n - j);
-        let base = base_of(last, top, 64);
+        let base = far::base_of(last, top, 64);
         let above = near::near(octets, i + j, m, (last - base) as u8);
         if 127 < above {
             return 0;
@@ -177,24 +163,13 @@ fn is_long(i: usize, n: usize) -> bool
     3 <= i
 }
 
-// Whether both ends of the type are distance away, or more.
-pub fn is_far(biased: u64, top: u64, distance: u64) -> bool
-    requires { ⌜ (biased ≤ 2 ^ 42) × (distance ≤ 2 ^ 32) ⌝ }
-    ensures { λ r. ⌜ (r ≡ true → (biasedLeast + distance ≤ biased) × (biased + distance ≤ top)) ⌝ }
-{
-    if biased < BIASED_LEAST + distance {
-        return false;
-    }
-    biased + distance <= top
-}
-
 // The same, where the run is at most 4,096 octets long: none of its pixels leaves the type where the ends of that are 128
 // times 4,096 away.
 pub fn pass_plain(octets: &[u8], i: usize, n: usize, biased: u64, top: u64) -> u64
     requires { ⌜ Top top × Between top biased × (i + n ≤ length (now octets)) × Plain (now octets) i n × (n % 32 ≡ 0) × (n ≤ 4096) ⌝ }
     ensures { λ r. ⌜ Passed top (now (octets .entry)) biased i n r (i + n) ⌝ }
 {
-    if is_far(biased, top, 524288) {
+    if far::is_far(biased, top, 524288) {
         let total = sum_run(octets, i, n) as u64;
         return biased + total - 128 * n as u64;
     }

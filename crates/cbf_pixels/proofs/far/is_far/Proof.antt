@@ -1,8 +1,8 @@
 -- `is_far` meets its contract. Assumes nothing.
 use Rattle.cbf_pixels.proofs.Integers.{never}
 use borrow.Author.Needs.{needs}
-use Rattle.cbf_pixels.proofs.validate.is_far.Statement.{statement}
-use Rattle.cbf_pixels.proofs.validate.is_far.Tie as tie
+use Rattle.cbf_pixels.proofs.far.is_far.Statement.{statement}
+use Rattle.cbf_pixels.proofs.far.is_far.Tie as tie
 
 returns : tie.Need-returns
 returns c = λ e. never e

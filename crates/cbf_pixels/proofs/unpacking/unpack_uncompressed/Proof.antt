@@ -7,8 +7,8 @@ use Rattle.cbf_pixels.specs.declared.Compression.the-variants.{Uncompres
 use Rattle.cbf_pixels.specs.Answers.{unpackPixels}
 use Rattle.cbf_pixels.proofs.Calls.{Unpacked, unpack-bad, unpack-no-room, unpack-done, uncompressed-some, uncompressed-none}
 use borrow.Author.Needs.{needs}
-use Rattle.cbf_pixels.proofs.unpack_uncompressed.Statement.{statement}
-use Rattle.cbf_pixels.proofs.unpack_uncompressed.Tie as tie
+use Rattle.cbf_pixels.proofs.unpacking.unpack_uncompressed.Statement.{statement}
+use Rattle.cbf_pixels.proofs.unpacking.unpack_uncompressed.Tie as tie
 
 mul-size : tie.Need-mul-size
 mul-size c = record { fits = omega (arith, mul-le-mul-right (c .before .before .args .count) (c .octets-per .ensures .1)) }

@@ -7,8 +7,8 @@ use Rattle.cbf_pixels.specs.declared.Compression.the-variants.{ByteOffse
 use Rattle.cbf_pixels.specs.Answers.{unpackPixels}
 use Rattle.cbf_pixels.proofs.Calls.{Unpacked, unpack-bad, unpack-no-room, unpack-done}
 use borrow.Author.Needs.{needs}
-use Rattle.cbf_pixels.proofs.unpack_byte_offset.Statement.{statement}
-use Rattle.cbf_pixels.proofs.unpack_byte_offset.Tie as tie
+use Rattle.cbf_pixels.proofs.unpacking.unpack_byte_offset.Statement.{statement}
+use Rattle.cbf_pixels.proofs.unpacking.unpack_byte_offset.Tie as tie
 
 returns : tie.Need-returns
 unfolding Unpacked unpackPixels

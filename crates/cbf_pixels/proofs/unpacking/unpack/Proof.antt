@@ -4,8 +4,8 @@ use Rattle.cbf_pixels.specs.declared.Compression.{Compression}
 use Rattle.cbf_pixels.specs.Answers.{unpackOutcome, unpackOutput}
 use Rattle.cbf_pixels.proofs.Calls.{Unpacked, unpack-many}
 use borrow.Author.Needs.{needs}
-use Rattle.cbf_pixels.proofs.unpack.Statement.{statement}
-use Rattle.cbf_pixels.proofs.unpack.Tie as tie
+use Rattle.cbf_pixels.proofs.unpacking.unpack.Statement.{statement}
+use Rattle.cbf_pixels.proofs.unpacking.unpack.Tie as tie
 
 returns : tie.Need-returns
 unfolding Unpacked

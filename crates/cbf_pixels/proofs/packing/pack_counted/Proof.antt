@@ -1,8 +1,8 @@
 use mathlib.Core.Path.{sym, _∙_}
 use Rattle.cbf_pixels.proofs.Calls.{Packed, pack-outside, pack-large, pack-no-room, may-write, pack-done}
 use borrow.Author.Needs.{needs}
-use Rattle.cbf_pixels.proofs.pack_counted.Statement.{statement}
-use Rattle.cbf_pixels.proofs.pack_counted.Tie as tie
+use Rattle.cbf_pixels.proofs.packing.pack_counted.Statement.{statement}
+use Rattle.cbf_pixels.proofs.packing.pack_counted.Tie as tie
 
 returns : tie.Need-returns
 unfolding Packed

@@ -9,8 +9,8 @@ use Rattle.cbf_walk.specs.Reading.{refused}
 use Rattle.cbf_format.specs.Listing.{listing}
 use Rattle.cbf.proofs.OutcomeLaws.{refusal-length, refusal-put}
 use Rattle.cbf_write.proofs.RoomLaws.{no-room, has-room}
-use Rattle.cbf.proofs.refusal_line.Statement.{statement}
-use Rattle.cbf.proofs.refusal_line.Tie as tie
+use Rattle.cbf.proofs.listing.refusal_line.Statement.{statement}
+use Rattle.cbf.proofs.listing.refusal_line.Tie as tie
 
 returns : tie.Need-returns
 returns c =

@@ -7,8 +7,8 @@ use denote.Ref.{now}
 use lib.ListN.{length}
 use Rattle.cbf_format.specs.Files as F
 use Rattle.cbf.proofs.OutcomeLaws.{list-refused, list-no-room, list-has-room}
-use Rattle.cbf.proofs.list.Statement.{statement}
-use Rattle.cbf.proofs.list.Tie as tie
+use Rattle.cbf.proofs.listing.list.Statement.{statement}
+use Rattle.cbf.proofs.listing.list.Tie as tie
 
 lines-requires : tie.Need-lines-requires
 lines-requires c κs = λ e. let z : _≡_ {A = ℕ} 0 1 = cc in absurd (omega arith)

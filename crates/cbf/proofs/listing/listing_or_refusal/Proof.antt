@@ -6,8 +6,8 @@ use lib.ListN.{length}
 use Rattle.cbf_pixels.specs.Answers.{outcome}
 use Rattle.cbf_format.specs.Files as F
 use Rattle.cbf.proofs.OutcomeLaws.{shown-listing, shown-refusal}
-use Rattle.cbf.proofs.listing_or_refusal.Statement.{statement}
-use Rattle.cbf.proofs.listing_or_refusal.Tie as tie
+use Rattle.cbf.proofs.listing.listing_or_refusal.Statement.{statement}
+use Rattle.cbf.proofs.listing.listing_or_refusal.Tie as tie
 
 returns : tie.Need-returns
 returns c =

@@ -2,8 +2,8 @@ use mathlib.Core.Path.{_∙_}
 use borrow.Author.Tests.{not-false}
 use borrow.Author.Needs.{needs}
 use Rattle.cbf_pixels.proofs.Calls.{Packed, pack-many, ample-write, ample-done}
-use Rattle.cbf_pixels.proofs.pack.Statement.{statement}
-use Rattle.cbf_pixels.proofs.pack.Tie as tie
+use Rattle.cbf_pixels.proofs.packing.pack.Statement.{statement}
+use Rattle.cbf_pixels.proofs.packing.pack.Tie as tie
 
 returns : tie.Need-returns
 unfolding Packed

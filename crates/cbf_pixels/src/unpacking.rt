@@ -1,0 +1,64 @@
+// Unpacking all pixels of octets that are there as a whole, of either compression.
+use crate::Answer;
+use crate::Compression;
+use crate::ElementType;
+use crate::fill;
+use crate::refused;
+use crate::uncompressed;
+use crate::validate;
+ghost use mathlib.Core.Path.{_≡_};
+ghost use Prim.Native.Nat.{_≤_};
+ghost use lib.ListN.{length};
+ghost use Rattle.cbf_pixels.specs.Answers.{outcome, unpackOutcome, unpackOutput};
+ghost use Rattle.cbf_pixels.specs.declared.Compression.the-variants.{Uncompressed, ByteOffset};
+
+fn unpack_uncompressed(kind: ElementType, octets: &[u8], count: usize, out: &mut [i64]) -> Answer
+    requires { ⌜ count ≤ 67108864 ⌝ }
+    ensures answer { λ r. ⌜ outcome r ≡ unpackOutcome Uncompressed kind count (now (octets .entry)) (length (now (out .entry))) ⌝ }
+    ensures output { λ _. ⌜ now (out .exit) ≡ unpackOutput Uncompressed kind count (now (octets .entry)) (now (out .entry)) ⌝ }
+{
+    let size = uncompressed::octets_per(kind) * count;
+    if octets.len() != size {
+        return refused::refused(13);
+    }
+    if out.len() < count {
+        return refused::refused(15);
+    }
+    uncompressed::fill(kind, octets, count, out);
+    Answer::Length(count)
+}
+
+fn unpack_byte_offset(kind: ElementType, octets: &[u8], count: usize, out: &mut [i64]) -> Answer
+    requires { ⌜ count ≤ 67108864 ⌝ }
+    ensures answer { λ r. ⌜ outcome r ≡ unpackOutcome ByteOffset kind count (now (octets .entry)) (length (now (out .entry))) ⌝ }
+    ensures output { λ _. ⌜ now (out .exit) ≡ unpackOutput ByteOffset kind count (now (octets .entry)) (now (out .entry)) ⌝ }
+{
+    if !validate::validate(kind, octets, count) {
+        return refused::refused(13);
+    }
+    if out.len() < count {
+        return refused::refused(15);
+    }
+    fill::fill(kind, octets, count, out);
+    Answer::Length(count)
+}
+
+// Unpacks count pixels from all of octets. The octets are known to be good before the first pixel is written.
+pub fn unpack(
+    compression: Compression,
+    kind: ElementType,
+    octets: &[u8],
+    count: usize,
+    out: &mut [i64],
+) -> Answer
+    ensures answer { λ r. ⌜ outcome r ≡ unpackOutcome compression kind count (now (octets .entry)) (length (now (out .entry))) ⌝ }
+    ensures output { λ _. ⌜ now (out .exit) ≡ unpackOutput compression kind count (now (octets .entry)) (now (out .entry)) ⌝ }
+{
+    if 67108864 < count {
+        return refused::refused(13);
+    }
+    match compression {
+        Compression::Uncompressed => unpack_uncompressed(kind, octets, count, out),
+        Compression::ByteOffset => unpack_byte_offset(kind, octets, count, out),
+    }
+}
