@@ -5,12 +5,10 @@ use crate::cbf::{self, Answer};
 use crate::compare::differ;
 use crate::compare_replacements::{self, Tally as Replacements};
 use crate::compare_sections::{self, Tally as Sections};
-use crate::compare_vectors;
 use crate::damage::damage;
 use crate::files;
 use crate::frames::Random;
 use crate::reader::{self, Read, Refusal};
-use crate::replaced_vectors;
 use crate::vectors;
 
 const GOOD: usize = 12_000;
@@ -156,9 +154,8 @@ impl Run {
         calls
     }
 
-    fn damaged_vectors(&mut self, cases: &[(Vec<u8>, Vec<u8>)]) -> usize {
-        let files = cases.iter().map(|(file, _)| file);
-        let small: Vec<&Vec<u8>> = files.filter(|f| f.len() <= VECTOR_LIMIT).collect();
+    fn damaged_vectors(&mut self, files: &[Vec<u8>]) -> usize {
+        let small: Vec<&Vec<u8>> = files.iter().filter(|f| f.len() <= VECTOR_LIMIT).collect();
         let mut calls = 0;
         for _ in 0..DAMAGED_VECTORS {
             let file = small[self.random.below(small.len())].clone();
@@ -199,12 +196,12 @@ pub fn all() -> usize {
         sections: Sections::default(),
         replacements: Replacements::default(),
     };
-    let cases = vectors::cases();
-    let mut calls = compare_vectors::all() + replaced_vectors::all() + run.lengths();
-    for (file, _) in &cases {
+    let files = vectors::files();
+    let mut calls = run.lengths();
+    for file in &files {
         calls += run.check(file, Kind::Given);
     }
-    calls += run.good() + run.damaged_files() + run.damaged_vectors(&cases);
+    calls += run.good() + run.damaged_files() + run.damaged_vectors(&files);
     let enough = [run.show(), run.sections.show(), run.replacements.show()];
     if enough.contains(&false) {
         std::process::exit(1);

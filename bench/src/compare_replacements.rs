@@ -6,8 +6,8 @@ use crate::compare::{differ, pixels};
 use crate::frames::Random;
 use crate::reader::{self, Read, Refusal, Section};
 use crate::reference::range;
-use crate::replaced_vectors::frame;
 use crate::replacement::{self, Edit};
+use crate::transcript::frame;
 
 /// Canaries on each side of what is lent, at most.
 const BESIDE: usize = 64;
@@ -186,11 +186,16 @@ impl<'c> Call<'c> {
     }
 }
 
+/// The vectors' frame of a style.
+fn styled(section: &Section, number: usize, style: usize) -> Vec<i64> {
+    frame(section.element_type, section.elements, number, style)
+}
+
 /// A frame that the section takes: one of the vectors' styles, or by chance.
 fn good_frame(section: &Section, number: usize, random: &mut Random) -> Vec<i64> {
     let (least, greatest, _) = range(section.element_type).expect("one of six");
     match random.below(4) {
-        style @ (1 | 2) => frame(section, number, style),
+        style @ (1 | 2) => styled(section, number, style),
         _ => pixels(section.elements, least, greatest, random),
     }
 }
@@ -370,7 +375,7 @@ pub fn check(file: &[u8], read: &Read, styles: bool, random: &mut Random, tally:
     for number in some(sections.len(), random) {
         let section = &sections[number - 1];
         let frames = if styles {
-            vec![frame(section, number, 1), frame(section, number, 2)]
+            vec![styled(section, number, 1), styled(section, number, 2)]
         } else {
             vec![good_frame(section, number, random)]
         };

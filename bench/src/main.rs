@@ -2,6 +2,8 @@
 //!
 //! bench               compare, then measure; exit status 1 at the first difference or where a bar is not met
 //! bench compare       compare only
+//! bench compare WHAT  compare only pixels, edges, files, transcript, masks or programs
+//! bench transcript CASES    print what the library says of each file of a cases.bin (vectors/README.md)
 //! bench measure WHAT  measure only pixels, files, calls or replacement
 //! bench program PATH  compare what the program cbf_list prints
 //! bench masked IN SECTION OUT LIMIT VALUE    what examples/replace.c is to write and to print
@@ -18,7 +20,7 @@ mod compare_files;
 mod compare_masks;
 mod compare_replacements;
 mod compare_sections;
-mod compare_vectors;
+mod compare_transcript;
 mod contents;
 mod damage;
 mod edges;
@@ -37,9 +39,10 @@ mod program;
 mod reader;
 mod reference;
 mod replaced_limits;
-mod replaced_vectors;
 mod replacement;
 mod sections;
+mod side;
+mod transcript;
 mod unpack_edges;
 mod valgrind;
 mod vectors;
@@ -63,24 +66,36 @@ fn measure(names: &[&str]) {
     }
 }
 
-fn compare() {
-    println!("bench: {} calls compared, no difference", compare::all());
-    println!(
-        "bench: {} calls at the edges of loops compared, no difference",
-        compare_edges::all()
-    );
-    println!(
-        "bench: {} calls on files compared, no difference",
-        compare_files::all()
-    );
-    println!(
-        "bench: {} calls with masks on two of forty frames and with the longest result, no difference",
-        compare_masks::all() + replaced_limits::all()
-    );
-    println!(
-        "bench: {} calls on files by CBFlib, fabio and DIALS compared, no difference",
-        other_programs::all()
-    );
+/// What is compared, what its calls are, and a function that ends the run at a difference and else tells how many they were.
+const COMPARED: [(&str, &str, fn() -> usize); 6] = [
+    ("pixels", "on pixels", compare::all),
+    ("edges", "at the edges of loops", compare_edges::all),
+    ("transcript", "of the transcript", compare_transcript::all),
+    ("files", "on files", compare_files::all),
+    (
+        "masks",
+        "with masks on two of forty frames and with the longest result",
+        || compare_masks::all() + replaced_limits::all(),
+    ),
+    (
+        "programs",
+        "on files by CBFlib, fabio and DIALS",
+        other_programs::all,
+    ),
+];
+
+/// Compares what has one of these names.
+fn compare(names: &[&str]) {
+    for (_, calls, compare) in COMPARED.iter().filter(|row| names.contains(&row.0)) {
+        println!("bench: {} calls {calls} compared, no difference", compare());
+    }
+}
+
+/// Prints the library's transcript of the files of a cases.bin.
+fn print_transcript(path: &str) {
+    let cases = std::fs::read(path).expect("a cases.bin");
+    let transcript = transcript::of(&side::Library, &vectors::split(&cases));
+    print!("{}", transcript.text);
 }
 
 /// What valgrind counts; whether the words name such a run.
@@ -103,7 +118,9 @@ fn main() {
     let words: Vec<&str> = words.iter().map(String::as_str).collect();
     match words[..] {
         ["run", ref words @ ..] if run_words(words) => {}
-        ["compare"] => compare(),
+        ["compare"] => compare(&COMPARED.map(|row| row.0)),
+        ["compare", name] if COMPARED.iter().any(|row| row.0 == name) => compare(&[name]),
+        ["transcript", path] => print_transcript(path),
         ["measure", name] if MEASURED.iter().any(|row| row.0 == name) => measure(&[name]),
         ["program", path] => {
             let runs = program::all(path);
@@ -113,11 +130,11 @@ fn main() {
             std::process::exit(masked::run([from, section, to, limit, value]));
         }
         [] => {
-            compare();
+            compare(&COMPARED.map(|row| row.0));
             measure(&MEASURED.map(|(name, _)| name));
         }
         _ => {
-            println!("usage: bench [compare | measure WHAT | program PATH | masked IN SECTION OUT LIMIT VALUE | run ..]; src/main.rs says what each does");
+            println!("usage: bench [compare [WHAT] | transcript CASES | measure WHAT | program PATH | masked IN SECTION OUT LIMIT VALUE | run ..]; src/main.rs says what each does");
             std::process::exit(2);
         }
     }

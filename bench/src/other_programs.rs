@@ -26,10 +26,10 @@ fn words(file: &[u8]) -> (String, usize) {
 
 /// Compares all of these files, and tells how many calls there were.
 pub fn all() -> usize {
-    let cases = vectors::cases();
-    let first = cases.len() - TABLE.lines().count();
+    let files = vectors::files();
+    let first = files.len() - TABLE.lines().count();
     let mut calls = 0;
-    for (line, (file, _)) in TABLE.lines().zip(&cases[first..]) {
+    for (line, file) in TABLE.lines().zip(&files[first..]) {
         let (name, expected) = line.split_once(' ').expect("a name and what is said");
         let (words, more) = words(file);
         if words != expected {

@@ -1,18 +1,26 @@
-//! The files of the program cbf_transcript, with what an independent program says of them.
+//! The vectors: files, and an independent program's transcript of them.
 
 pub const COUNT: usize = 542;
 
-const FILES: &[u8] = include_bytes!("../../crates/cbf_transcript/data/cases.bin");
-const TRANSCRIPT: &str = include_str!("../../crates/cbf_transcript/stdout");
+const FILES: &[u8] = include_bytes!("../vectors/cases.bin");
+pub const TRANSCRIPT: &str = include_str!("../vectors/transcript.txt");
 
-fn files() -> Vec<Vec<u8>> {
+/// The files of a cases.bin: each as four bytes of length, lowest octet first, and then the file.
+pub fn split(mut rest: &[u8]) -> Vec<Vec<u8>> {
     let mut files = Vec::new();
-    let mut rest = FILES;
     while let Some((length, after)) = rest.split_first_chunk() {
-        let (file, next) = after.split_at(u32::from_le_bytes(*length) as usize);
+        let length = u32::from_le_bytes(*length) as usize;
+        let (file, next) = after.split_at_checked(length).expect("a whole file");
         files.push(file.to_vec());
         rest = next;
     }
+    assert!(rest.is_empty(), "the length of a file is cut");
+    files
+}
+
+pub fn files() -> Vec<Vec<u8>> {
+    let files = split(FILES);
+    assert_eq!(files.len(), COUNT);
     files
 }
 
@@ -38,43 +46,6 @@ fn listings() -> Vec<Vec<u8>> {
 /// Each file with its listing; a refused one with the line of its refusal.
 pub fn cases() -> Vec<(Vec<u8>, Vec<u8>)> {
     let (files, listings) = (files(), listings());
-    assert_eq!((files.len(), listings.len()), (COUNT, COUNT));
+    assert_eq!(files.len(), listings.len());
     files.into_iter().zip(listings).collect()
-}
-
-/// What the transcript says of each file's catalogue.
-pub fn catalogues() -> Vec<&'static str> {
-    let catalogues: Vec<&str> = TRANSCRIPT
-        .lines()
-        .filter_map(|line| line.strip_prefix("catalogue "))
-        .filter(|words| !words.starts_with("short "))
-        .collect();
-    assert_eq!(catalogues.len(), COUNT);
-    catalogues
-}
-
-/// The lines of each case that start with one of these words.
-fn lines(words: &[&str]) -> Vec<Vec<&'static str>> {
-    let mut cases: Vec<Vec<&str>> = Vec::new();
-    for line in TRANSCRIPT.lines() {
-        if line.starts_with("case ") {
-            cases.push(Vec::new());
-        } else if words.iter().any(|word| line.starts_with(word)) {
-            cases
-                .last_mut()
-                .expect("a case before its lines")
-                .push(line);
-        }
-    }
-    cases
-}
-
-/// What the transcript says of each file's octets and pixels.
-pub fn section_lines() -> Vec<Vec<&'static str>> {
-    lines(&["octets ", "unpack "])
-}
-
-/// What the transcript says of replacing each file's frames.
-pub fn replacement_lines() -> Vec<Vec<&'static str>> {
-    lines(&["replace ", "read back ", "order "])
 }
