@@ -134,7 +134,8 @@ fn main() {
             measure(&MEASURED.map(|(name, _)| name));
         }
         _ => {
-            println!("usage: bench [compare [WHAT] | transcript CASES | measure WHAT | program PATH | masked IN SECTION OUT LIMIT VALUE | run ..]; src/main.rs says what each does");
+            println!("usage: bench [compare [WHAT] | transcript CASES | measure WHAT | program PATH | masked .. | run ..]");
+            println!("src/main.rs says what each does");
             std::process::exit(2);
         }
     }

@@ -1,5 +1,5 @@
-//! What a side says of files, as one text: vectors/README.md tells its lines. Nothing but the side's own answers goes into it, so
-//! that the library's transcript of any files is had without the reference.
+//! What a side says of files, as one text: vectors/README.md tells its lines. Nothing but the side's own answers goes
+//! into it, so that the library's transcript of any files is had without the reference.
 
 use crate::reader::Refusal;
 use crate::reference::range;
