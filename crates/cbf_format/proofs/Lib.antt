@@ -1,6 +1,7 @@
 -- The laws of the definitions in specs/.
 pub mod Slices
 pub mod LineTame
+pub mod Base64Laws
 pub mod SectionTame
 pub mod SectionLaws
 pub mod FileLaws

@@ -100,6 +100,8 @@ abbrev pub isEmpty : List Symbol → Bool
 isEmpty [] = true
 isEmpty (x ∷ l) = false
 
+-- What this and fromGroup are is said by two laws in proofs/Base64Laws: octets are read from what they are written as
+-- (`written` in Base64Text; decode-written), and from nothing else (decode-only).
 unfoldable pub decode : List Symbol → Option (List ℕ)
 decode [] = some []
 decode (a ∷ []) = none

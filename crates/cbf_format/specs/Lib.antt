@@ -4,6 +4,7 @@ pub mod Headers
 pub mod Values
 pub mod Descriptions
 pub mod Base64
+pub mod Base64Text
 pub mod Sections
 pub mod Files
 pub mod Listing

@@ -18,6 +18,7 @@ use Rattle.cbf_format.specs.Lines.{line}
 use Rattle.cbf_format.specs.Base64.{symbol, isOther, refusedSymbol, Letters, addSymbols, refusedText, moreText, letters}
 use Rattle.cbf_format.specs.Sections.{closing, fileLimit}
 use Rattle.cbf_format.proofs.LineTame.{same-eq, line-pos, line-tame}
+use Rattle.cbf_format.proofs.Base64Laws.{Plains, no-symbol, plain-bytes}
 use Rattle.cbf_pixels.specs.declared.Refusal.{Refusal}
 use Rattle.cbf_reader.specs.Places.{Run, endedAt}
 use Rattle.cbf_reader.specs.Groups.{groupsFrom, groupsOf, bytesFrom, symbolic}
@@ -31,7 +32,7 @@ use Rattle.cbf_reader.specs.declared.base64_text.Base64Text.{Base64Text}
 use Rattle.cbf_reader.specs.declared.base64_text.Base64Text.the-variants as T
 use Rattle.cbf_format.proofs.Slices.{slice-take}
 use Rattle.cbf_reader.proofs.Texts.{same-lengths}
-use Rattle.cbf_reader.proofs.GroupLaws.{Plains, no-symbol, groups-bytes, plain-bytes}
+use Rattle.cbf_reader.proofs.GroupLaws.{groups-bytes}
 use Rattle.cbf_reader.proofs.LineLaws.{Far, Good, line-good, textual-inside, line-run, refused-run}
 use Rattle.cbf_reader.proofs.ClosingLaws.{and-both, ahead, line-ahead, blank-textual, slice-then, ended-at, ended-not}
 

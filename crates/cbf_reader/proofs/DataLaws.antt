@@ -17,6 +17,7 @@ use Rattle.cbf_format.specs.Base64.{Letters, addSymbols, refusedText, moreText,
 use Rattle.cbf_format.specs.Sections as S
 use Rattle.cbf_format.specs.Sections.{closing, marker, fileLimit, closed, closedAfter, binaryData, goodText, textClosed, base64Data, dataFor}
 use Rattle.cbf_format.proofs.LineTame.{unoctets}
+use Rattle.cbf_format.proofs.Base64Laws.{Plains}
 use Rattle.cbf_format.proofs.SectionTame.{binaryOf, base64Of, letters-tame, dataFor-tame}
 use Rattle.cbf_format.proofs.SectionLaws.{word-count, letters-end, data-says}
 use Rattle.cbf_reader.specs.declared.closing.Next.{Next}
@@ -33,7 +34,7 @@ use Rattle.cbf_reader.specs.declared.base64_text.Base64Text.{Base64Text}
 use Rattle.cbf_reader.specs.declared.base64_text.Base64Text.the-variants as T
 use Rattle.cbf_reader.specs.Groups.{groupsFrom, groupsOf, groupsHold}
 use Rattle.cbf_reader.specs.Base64Places.{lettersAt, FewOfText}
-use Rattle.cbf_reader.proofs.GroupLaws.{Plains, no-symbol, plain-bytes, held-decodes, not-held-sized, groups-of}
+use Rattle.cbf_reader.proofs.GroupLaws.{held-decodes, not-held-sized, groups-of}
 use Rattle.cbf_reader.proofs.Base64Laws.{letters-plain}
 use Rattle.cbf_reader.proofs.ClosingLaws.{no-place, same-place, word-short, word-at}
 

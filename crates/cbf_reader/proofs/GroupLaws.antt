@@ -11,11 +11,11 @@ use native.Mathlib.Numerals.{add-one}
 use lib.ListN.{length, getD}
 use lib.Seq.{slice, slice-cons, slice-empty}
 use borrow.Author.Tests.{eq-eqb, ne-eqb, eqb-true, eqb-false, leb-true, leb-false}
-use Rattle.cbf_pixels.specs.Octets.{Octets, no-octet, octet}
+use Rattle.cbf_pixels.specs.Octets.{Octets}
 use Rattle.cbf_format.specs.declared.Symbol.{Symbol}
 use Rattle.cbf_format.specs.declared.Symbol.the-variants.{Letter, Pad, Blank, Other}
-use Rattle.cbf_format.specs.Text.{blank}
-use Rattle.cbf_format.specs.Base64.{symbol, addSymbol, addSymbols, addOctets, lastGroup, isEmpty, decode, sized}
+use Rattle.cbf_format.specs.Base64.{symbol, addSymbol, addSymbols, addOctets, lastGroup, decode, sized}
+use Rattle.cbf_format.proofs.Base64Laws.{Plain, letter, pad, Plains, no-symbol, more, OctetsIn, decode-octets}
 use Rattle.cbf_reader.specs.declared.base64.Groups.{Groups}
 use Rattle.cbf_reader.specs.declared.text.Class.the-variants.{Base64Letter}
 use Rattle.cbf_reader.specs.Places.{Run}
@@ -78,16 +78,6 @@ module _ (pads last : ℕ) where
   pub unused-2 : pads ≡ 2 → unusedZero pads last ≡ eqb (last % 16) 0
   unfolding unusedZero
   unused-2 e = rw e
-
--- ---- letters with a number below 64, and pads
-
-pub data Plain : Symbol → Type 0 where
-  letter : {n : ℕ} → n < 64 → Plain (Letter n)
-  pad : Plain Pad
-
-pub data Plains : List Symbol → Type 0 where
-  no-symbol : Plains []
-  more : {s : Symbol} {l : List Symbol} → Plain s → Plains l → Plains (s ∷ l)
 
 -- ---- what symbols after a state do to it
 
@@ -183,38 +173,6 @@ sized-after size k n x e (more a no-symbol) = short size k n x e (more a no-symb
 sized-after size k n x e (more a (more b no-symbol)) = short size k n x e (more a (more b no-symbol)) (λ r. omega arith)
 sized-after size k n x e (more a (more b (more c no-symbol))) = short size k n x e (more a (more b (more c no-symbol))) (λ r. omega arith)
 sized-after size k n x e (more a (more b (more c (more d p)))) = four size k n x e a b c d p (λ y m f. sized-after size (suc k) m y f p)
-
--- ---- the octets that a text decodes to are below 256
-
-abbrev OctetsIn : Option (List ℕ) → Type 0
-OctetsIn none = Unit {0}
-OctetsIn (some os) = Octets os
-
-octets-last : (b : Bool) {os : List ℕ} → Octets os → OctetsIn (lastGroup b os)
-octets-last true h = h
-octets-last false h = tt
-
-octets-three : {a b c : ℕ} (o : Option (List ℕ)) → a < 256 → b < 256 → c < 256 → OctetsIn o → OctetsIn (addOctets (a ∷ b ∷ c ∷ []) o)
-octets-three none ha hb hc h = tt
-octets-three (some os) ha hb hc h = octet ha (octet hb (octet hc h))
-
-octets-four : {a b c d : Symbol} (l : List Symbol) → Plain a → Plain b → Plain c → Plain d → OctetsIn (decode l) → OctetsIn (decode (a ∷ b ∷ c ∷ d ∷ l))
-unfolding decode
-octets-four l pad b c d h = tt
-octets-four l (letter ha) pad c d h = tt
-octets-four l (letter ha) (letter hb) pad (letter hd) h = tt
-octets-four l (letter ha) (letter {n = b} hb) pad pad h = octets-last (isEmpty l && eqb (b % 16) 0) (octet (omega arith) no-octet)
-octets-four l (letter ha) (letter hb) (letter {n = c} hc) pad h =
-    octets-last (isEmpty l && eqb (c % 4) 0) (octet (omega arith) (octet (omega arith) no-octet))
-octets-four l (letter ha) (letter hb) (letter hc) (letter hd) h = octets-three (decode l) (omega arith) (omega arith) (omega arith) h
-
-decode-octets : {l : List Symbol} → Plains l → OctetsIn (decode l)
-unfolding decode
-decode-octets no-symbol = no-octet
-decode-octets (more a no-symbol) = tt
-decode-octets (more a (more b no-symbol)) = tt
-decode-octets (more a (more b (more c no-symbol))) = tt
-decode-octets (more a (more b (more c (more {l = l} d p)))) = octets-four l a b c d (decode-octets p)
 
 -- ---- the check, and what the text stands for
 
@@ -353,40 +311,3 @@ module _ {file : List ℕ} {from m : ℕ} (run : Run (inClass Base64Letter) file
           ap (λ (f : Groups). bytesFrom f (slice m to file)) (letter-more g (suc n) s last (run .each i h (omega arith)) (run .each (m - 1) (omega arith) (omega arith)))
           ∙ go n (addSymbolTo g s) (i + 1) (omega arith) (omega arith)
           ∙ sym (bytes-next g file i to (omega arith) l)
-
--- ---- the letters of a text are below 64
-
-letter-or : (b : Bool) (m : ℕ) (s : Symbol) (n : ℕ) → (b ≡ true → m < 64) → (s ≡ Letter n → n < 64) → cond b (Letter m) s ≡ Letter n → n < 64
-letter-or true m s n h k e = let q : m ≡ n = cc in omega (arith, h refl)
-letter-or false m s n h k e = k e
-
-no-letter : (a b : Bool) (n : ℕ) → cond a Pad (cond b Blank Other) ≡ Letter n → n < 64
-no-letter true b n e = let z : _≡_ {A = ℕ} 0 1 = cc in absurd (omega arith)
-no-letter false true n e = let z : _≡_ {A = ℕ} 0 1 = cc in absurd (omega arith)
-no-letter false false n e = let z : _≡_ {A = ℕ} 0 1 = cc in absurd (omega arith)
-
-and-second : (a b : Bool) → (a && b) ≡ true → b ≡ true
-and-second true b e = e
-and-second false true e = refl
-and-second false false e = e
-
-up-to : (a x y : ℕ) → (leb a x && leb x y) ≡ true → x ≤ y
-up-to a x y e = leb-true x y (and-second (leb a x) (leb x y) e)
-
-pub symbol-letter : (x n : ℕ) → symbol x ≡ Letter n → n < 64
-unfolding symbol
-symbol-letter x n =
-    letter-or (leb 65 x && leb x 90) (x - 65) _ n (λ e. omega (arith, up-to 65 x 90 e))
-    (letter-or (leb 97 x && leb x 122) (x - 71) _ n (λ e. omega (arith, up-to 97 x 122 e))
-    (letter-or (leb 48 x && leb x 57) (x + 4) _ n (λ e. omega (arith, up-to 48 x 57 e))
-    (letter-or (eqb x 43) 62 _ n (λ e. omega arith) (letter-or (eqb x 47) 63 _ n (λ e. omega arith) (no-letter (eqb x 61) (blank x) n)))))
-
-add-plain : (s : Symbol) {l : List Symbol} → ((n : ℕ) → s ≡ Letter n → n < 64) → Plains l → Plains (addSymbol s l)
-add-plain (Letter n) h p = more (letter (h n refl)) p
-add-plain Pad h p = more pad p
-add-plain Blank h p = p
-add-plain Other h p = p
-
-pub plain-bytes : (t : List ℕ) {l : List Symbol} → Plains l → Plains (addSymbols t l)
-plain-bytes [] p = p
-plain-bytes (x ∷ t) p = add-plain (symbol x) (λ n e. symbol-letter x n e) (plain-bytes t p)

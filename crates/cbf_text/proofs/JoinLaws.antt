@@ -16,7 +16,7 @@ use Rattle.cbf_reader.specs.Classes.{isLetter}
 use Rattle.cbf_reader.specs.Places.{Run}
 use Rattle.cbf_reader.proofs.Texts.{run-then, getD-slice}
 use Rattle.cbf_reader.proofs.ClosingLaws.{slice-then}
-use Rattle.cbf_reader.proofs.GroupLaws.{symbol-letter}
+use Rattle.cbf_format.proofs.Base64Laws.{symbol-letter}
 use Rattle.cbf_text.specs.Letters.{addSix, sixes, groupOctets, joined}
 use Rattle.cbf_text.specs.Texts.{LettersOnly, SixesOnly, NextSays, textOctets, Decodes}
 use Rattle.cbf_text.proofs.LetterLaws.{sixes-append, joined-append, joined-length}
