@@ -162,19 +162,17 @@ pub fn overlong(pixels: &[i64], random: &mut Random) -> Vec<u8> {
     octets
 }
 
-fn round(element_type: u8, random: &mut Random) -> usize {
-    let (least, greatest, width) = reference::range(element_type).unwrap();
-    let mut calls = 0;
-    let n = count(random);
-    let mut frame = pixels(n, least, greatest, random);
-    let mut octets = reference::pack(element_type, &frame, usize::MAX).unwrap();
+/// A frame's octets: whole, wider than they need to be, as another type's, and damaged; tells how many calls.
+fn octets_of(element_type: u8, frame: &[i64], random: &mut Random) -> usize {
+    let n = frame.len();
+    let mut octets = reference::pack(element_type, frame, usize::MAX).unwrap();
     for room in rooms(octets.len(), random) {
-        check_pack(element_type, &frame, room, random);
+        check_pack(element_type, frame, room, random);
     }
     for room in rooms(n, random) {
         check_unpack(element_type, 1, &octets, n, room, random);
     }
-    let long = overlong(&frame, random);
+    let long = overlong(frame, random);
     check_unpack(element_type, 1, &long, n, n, random);
     check_unpack(element_type, 1, &long, n + 1, n + 1, random);
     check_unpack(element_type, 1, &long, n.saturating_sub(1), n, random);
@@ -183,45 +181,47 @@ fn round(element_type: u8, random: &mut Random) -> usize {
     check_unpack(other, 1, &long, n, n, random);
     damage(&mut octets, random);
     check_unpack(element_type, 1, &octets, n, n, random);
-    // One pixel outside the type.
-    if n > 0 {
-        let at = random.below(n);
-        frame[at] = [
-            least - 1,
-            greatest + 1,
-            i64::MIN,
-            i64::MAX,
-            random.next() as i64,
-        ][random.below(5)];
-        check_pack(element_type, &frame, 15 * n, random);
+    4 + 4 + 3 + 1 + 1
+}
+
+/// One pixel outside the type, where there is one.
+fn outside(element_type: u8, mut frame: Vec<i64>, random: &mut Random) -> usize {
+    if frame.is_empty() {
+        return 0;
     }
-    // Uncompressed octets, as many as there should be and not.
+    let (least, greatest, _) = reference::range(element_type).unwrap();
+    let at = random.below(frame.len());
+    let any = random.next() as i64;
+    frame[at] = [least - 1, greatest + 1, i64::MIN, i64::MAX, any][random.below(5)];
+    check_pack(element_type, &frame, 15 * frame.len(), random);
+    1
+}
+
+/// Uncompressed octets, as many as there should be and not, and octets with no meaning.
+fn octets_by_chance(element_type: u8, n: usize, random: &mut Random) -> usize {
+    let (_, _, width) = reference::range(element_type).unwrap();
     let raw: Vec<u8> = (0..n * width).map(|_| random.next() as u8).collect();
     for room in rooms(n, random) {
         check_unpack(element_type, 0, &raw, n, room, random);
     }
     check_unpack(element_type, 0, &raw, n + 1, n + 1, random);
-    check_unpack(
-        element_type,
-        0,
-        &raw[..raw.len().saturating_sub(1)],
-        n,
-        n,
-        random,
-    );
-    // Octets with no meaning.
-    let noise: Vec<u8> = (0..n)
-        .map(|_| {
-            if random.below(3) == 0 {
-                0x80
-            } else {
-                random.next() as u8
-            }
-        })
-        .collect();
+    let short = &raw[..raw.len().saturating_sub(1)];
+    check_unpack(element_type, 0, short, n, n, random);
+    let octet = |random: &mut Random| match random.below(3) {
+        0 => 0x80,
+        _ => random.next() as u8,
+    };
+    let noise: Vec<u8> = (0..n).map(|_| octet(random)).collect();
     check_unpack(element_type, 1, &noise, n / 2, n, random);
-    calls += 4 + 4 + 3 + 1 + 1 + usize::from(n > 0) + 4 + 2 + 1;
-    calls
+    4 + 2 + 1
+}
+
+fn round(element_type: u8, random: &mut Random) -> usize {
+    let (least, greatest, _) = reference::range(element_type).unwrap();
+    let n = count(random);
+    let frame = pixels(n, least, greatest, random);
+    let calls = octets_of(element_type, &frame, random);
+    calls + outside(element_type, frame, random) + octets_by_chance(element_type, n, random)
 }
 
 /// Runs of plain octets to each end of the type and one beyond, at each place of a block; an escape at each place of a block.
