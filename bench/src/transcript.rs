@@ -32,14 +32,14 @@ struct Shape {
 }
 
 impl Shape {
-    /// By the section's line in the listing.
-    fn listed(line: &str) -> Shape {
+    /// By the section's line in the listing; none where it is no such line, which the comparison then shows.
+    fn listed(line: &str) -> Option<Shape> {
         let words: Vec<&str> = line.split(' ').collect();
-        let index = TYPES.iter().position(|name| *name == words[5]);
-        Shape {
-            element_type: 1 + index.expect("one of six") as u8,
-            elements: words[3].parse().expect("a number"),
-        }
+        let index = TYPES.iter().position(|name| words.get(5) == Some(name))?;
+        Some(Shape {
+            element_type: 1 + index as u8,
+            elements: words[3].parse().ok()?,
+        })
     }
 
     fn frame(&self, number: usize, style: usize) -> Vec<i64> {
@@ -126,7 +126,7 @@ impl Case<'_> {
             Err(refusal) => self.says.line(&refused(&refusal)),
             Ok(listing) => {
                 let listing = String::from_utf8_lossy(&listing);
-                self.sections = listing.lines().map(Shape::listed).collect();
+                self.sections = listing.lines().filter_map(Shape::listed).collect();
                 self.says.text += &listing;
             }
         }
