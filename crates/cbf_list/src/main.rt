@@ -4,9 +4,21 @@ use cbf_pixels::Answer;
 use cbf_pixels::Refusal;
 use libc::STDIN_FILENO;
 use libc::STDOUT_FILENO;
+ghost use mathlib.Core.Path.{_≡_};
+ghost use lib.ListN.{length};
+ghost use Rattle.cbf_pixels.specs.Answers.{outcome, written};
+ghost use Rattle.cbf_format.specs.Lines.{lineLimit};
+ghost use Rattle.cbf_format.specs.Files.{read};
+ghost use Rattle.cbf_list.specs.Texts.{listText, textOutcome};
 
-// The text for what was read; more says that the input did not end there: "input over 65,536 bytes: `refused 4 at 0`".
-fn text(file: &[u8], more: bool, out: &mut [u8]) -> Answer {
+// Writes the text for what was read; more says that the input did not end there.
+fn text(file: &[u8], more: bool, out: &mut [u8]) -> Answer
+    ensures answer { λ r. ⌜ outcome r
+        ≡ textOutcome more (read lineLimit (now (file .entry))) (length (now (out .entry))) ⌝ }
+    ensures output { λ _. ⌜ now (out .exit)
+        ≡ written (textOutcome more (read lineLimit (now (file .entry))) (length (now (out .entry))))
+        (listText more (read lineLimit (now (file .entry))) (length (now (out .entry)))) (now (out .entry)) ⌝ }
+{
     if more {
         return cbf::refusal_line(
             Refusal {
