@@ -15,7 +15,8 @@ use Rattle.cbf_walk.proofs.ParserLaws.{bind-at, counted-ok}
 use Rattle.cbf_format.specs.Text.{blank, textual, trim}
 use Rattle.cbf_format.specs.Lines.{line, refusedByte}
 use Rattle.cbf_format.specs.Headers.{splitColon, someName, continues, malformed, headerLine, addLine, moreLines, headerLines, group}
-use Rattle.cbf_format.specs.Values.{oneOf, knownNames, valueOf}
+use Rattle.cbf_format.specs.declared.KnownHeader.{KnownHeader}
+use Rattle.cbf_format.specs.Values.{knownHeaders, named, valueOf}
 use Rattle.cbf_format.specs.Descriptions.{found, look, judge}
 use Rattle.cbf_format.specs.House.{endedLines}
 use Rattle.cbf_format.proofs.LineTame.{unrefused}
@@ -89,23 +90,23 @@ headerLines-ended limit most (suc f) first at ((x ∷ l) ∷ ls) r m h w =
 -- ---- what lines say
 
 -- a line of header k with the value n
-pub record Gives (limit k n : ℕ) (l : List ℕ) : Type 0 where
+pub record Gives (limit : ℕ) (k : KnownHeader) (n : ℕ) (l : List ℕ) : Type 0 where
   pub name : List ℕ
   pub value : List ℕ
   pub formed : malformed true l ≡ false
   pub split : splitColon l ≡ some (name, value)
-  pub is-known : oneOf 0 knownNames name ≡ some k
+  pub is-known : named knownHeaders name ≡ some k
   pub is-value : valueOf k (trim value) ≡ some n
   pub fine : refusedByte limit 0 l ≡ none
 
 -- at most so many lines, that can be written; they begin with a header; and with the headers found before, they are judged to be these
-pub record Say (limit most : ℕ) (ls : List (List ℕ)) (before after : List (ℕ × ℕ)) : Type 0 where
+pub record Say (limit most : ℕ) (ls : List (List ℕ)) (before after : List (KnownHeader × ℕ)) : Type 0 where
   pub few : length ls ≤ most
   pub written : AllWritten limit false ls
   pub whole : (at : ℕ) → group (placed at ls) .text ≡ []
   pub judged : (at : ℕ) → judge (group (placed at ls) .headers) before ≡ found after
 
-pub say-none : (limit : ℕ) (fs : List (ℕ × ℕ)) → Say limit 0 [] fs fs
+pub say-none : (limit : ℕ) (fs : List (KnownHeader × ℕ)) → Say limit 0 [] fs fs
 unfolding AllWritten placed judge
 say-none limit fs = record { few = omega arith; written = tt; whole = λ at. refl; judged = λ at. refl }
 
@@ -121,11 +122,11 @@ some-bytes : (l : List ℕ) (nv : List ℕ × List ℕ) → splitColon l ≡ som
 some-bytes [] nv e = absurd (Option·none-ne-some nv e)
 some-bytes (x ∷ l) nv e = omega arith
 
-module _ {limit k n : ℕ} {l : List ℕ} (g : Gives limit k n l) where
+module _ {limit : ℕ} {k : KnownHeader} {n : ℕ} {l : List ℕ} (g : Gives limit k n l) where
   pub gives-written : Written limit false l
   gives-written = record { some-byte = some-bytes l (g .name, g .value) (g .split); fine = g .fine; formed = starts l (g .formed) .1 }
 
-  pub say-line : {most : ℕ} {ls : List (List ℕ)} {before after : List (ℕ × ℕ)} → look k before ≡ none → Say limit most ls ((k, n) ∷ before) after
+  pub say-line : {most : ℕ} {ls : List (List ℕ)} {before after : List (KnownHeader × ℕ)} → look k before ≡ none → Say limit most ls ((k, n) ∷ before) after
       → Say limit (suc most) (l ∷ ls) before after
   unfolding AllWritten placed judge
   say-line e s = record {

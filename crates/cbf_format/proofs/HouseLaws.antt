@@ -14,12 +14,14 @@ use Rattle.cbf_pixels.specs.declared.ElementType.the-variants.{U8, S8, U16, S16
 use Rattle.cbf_format.specs.Text.{bytes, trim}
 use Rattle.cbf_format.specs.Lines.{refusedByte}
 use Rattle.cbf_format.specs.Headers.{splitColon, malformed, group}
-use Rattle.cbf_format.specs.Values.{number, between, oneOf, knownNames, valueOf}
-use Rattle.cbf_format.specs.Descriptions.{Description, found, look, judge, dimensionsAgree, typeOf, describes, verdictOf, verdict, concluded, headers}
+use Rattle.cbf_format.specs.declared.KnownHeader.{KnownHeader}
+use Rattle.cbf_format.specs.declared.KnownHeader.the-variants.{TransferEncoding, Size, Elements, ContentType, Kind, ByteOrder, Id, Fastest, Second, Third}
+use Rattle.cbf_format.specs.Values.{number, between, knownHeaders, named, typeWords, valueOf}
+use Rattle.cbf_format.specs.Descriptions.{Description, found, ordinal, sameHeader, look, judge, dimensionsAgree, typeOf, describes, verdictOf, verdict, concluded, headers}
 use Rattle.cbf_format.specs.Sections.{fileLimit}
 use Rattle.cbf_format.specs.Listing.{printed}
 use Rattle.cbf_format.specs.Catalogue.{typeNumber}
-use Rattle.cbf_format.specs.House.{endedLines, numberLine, typeWords, houseLines, housed}
+use Rattle.cbf_format.specs.House.{endedLines, numberLine, houseLines, housed}
 use Rattle.cbf_format.proofs.VerdictLaws.{Known}
 use Rattle.cbf_format.proofs.DecimalLaws.{decimal-printed, number-printed, refused-digits, trim-digits}
 use Rattle.cbf_format.proofs.HeaderLaws.{AllWritten, placed, headerLines-ended, Gives, Say, say-none, say-line}
@@ -30,12 +32,12 @@ longest = 48
 
 -- what is read of a line as header k, with this name and this value
 abbrev Seen : Type 0
-Seen = Bool × Option (List ℕ × List ℕ) × Option ℕ × Option ℕ × Option (ℕ × ℕ)
+Seen = Bool × Option (List ℕ × List ℕ) × Option KnownHeader × Option ℕ × Option (ℕ × ℕ)
 
-abbrev seen : ℕ → List ℕ → List ℕ → List ℕ → Seen
-seen k l name value = (malformed true l, splitColon l, oneOf 0 knownNames name, valueOf k (trim value), refusedByte longest 0 l)
+abbrev seen : KnownHeader → List ℕ → List ℕ → List ℕ → Seen
+seen k l name value = (malformed true l, splitColon l, named knownHeaders name, valueOf k (trim value), refusedByte longest 0 l)
 
-gives : (k n : ℕ) (l name value : List ℕ) → seen k l name value ≡ (false, some (name, value), some k, some n, none) → Gives longest k n l
+gives : (k : KnownHeader) (n : ℕ) (l name value : List ℕ) → seen k l name value ≡ (false, some (name, value), some k, some n, none) → Gives longest k n l
 gives k n l name value e = record {
   name = name;
   value = value;
@@ -52,25 +54,25 @@ abbrev start : List ℕ → List ℕ
 start name = name ++ bytes ": "
 
 -- the name of header k, whose value is a number of at most 10 digits within these bounds
-abbrev Names : ℕ → ℕ → ℕ → List ℕ → Type 0
+abbrev Names : KnownHeader → ℕ → ℕ → List ℕ → Type 0
 Names k least most name = (v : List ℕ)
     → _≡_ {A = Bool × Bool × Seen} (leb (length (start name)) 38, ltb most 10_000_000_000, seen k (start name ++ v) name (32 ∷ v))
     (true, true, (false, some (name, 32 ∷ v), some k, between least most (number (trim v)), refusedByte longest (length (start name)) v))
 
 -- what is found with the value of header k, if there is one
-abbrev adding : ℕ → Option ℕ → List (ℕ × ℕ) → List (ℕ × ℕ)
+abbrev adding : KnownHeader → Option ℕ → List (KnownHeader × ℕ) → List (KnownHeader × ℕ)
 adding k none fs = fs
 adding k (some n) fs = (k, n) ∷ fs
 
-look-other : (j k : ℕ) (o : Option ℕ) (fs : List (ℕ × ℕ)) → eqb j k ≡ false → look j (adding k o fs) ≡ look j fs
+look-other : (j k : KnownHeader) (o : Option ℕ) (fs : List (KnownHeader × ℕ)) → sameHeader j k ≡ false → look j (adding k o fs) ≡ look j fs
 look-other j k none fs h = refl
 look-other j k (some n) fs h = rw h
 
-look-same : (k : ℕ) (o : Option ℕ) (fs : List (ℕ × ℕ)) → look k fs ≡ none → look k (adding k o fs) ≡ o
+look-same : (k : KnownHeader) (o : Option ℕ) (fs : List (KnownHeader × ℕ)) → look k fs ≡ none → look k (adding k o fs) ≡ o
 look-same k none fs h = h
-look-same k (some n) fs h = rw (eq-eqb k k refl)
+look-same k (some n) fs h = rw (eq-eqb (ordinal k) (ordinal k) refl)
 
-module _ (k least most : ℕ) (name : List ℕ) (names : Names k least most name) where
+module _ (k : KnownHeader) (least most : ℕ) (name : List ℕ) (names : Names k least most name) where
   gives-number : (n : ℕ) → least ≤ n → n ≤ most → Gives longest k n (start name ++ printed n)
   gives-number n l h =
       let e = names (printed n) in
@@ -88,23 +90,23 @@ module _ (k least most : ℕ) (name : List ℕ) (names : Names k least most name
       ))
 
   -- a number, and one that may be absent
-  say-number : {n lines : ℕ} {ls : List (List ℕ)} {before after : List (ℕ × ℕ)} → least ≤ n → n ≤ most → look k before ≡ none
+  say-number : {n lines : ℕ} {ls : List (List ℕ)} {before after : List (KnownHeader × ℕ)} → least ≤ n → n ≤ most → look k before ≡ none
       → Say longest lines ls ((k, n) ∷ before) after → Say longest (suc lines) ((start name ++ printed n) ∷ ls) before after
   say-number {n} l h e s = say-line (gives-number n l h) e s
 
-  say-optional : (o : Option ℕ) {lines : ℕ} {ls : List (List ℕ)} {before after : List (ℕ × ℕ)} → ((n : ℕ) → o ≡ some n → (least ≤ n) × (n ≤ most)) → look k before ≡ none
+  say-optional : (o : Option ℕ) {lines : ℕ} {ls : List (List ℕ)} {before after : List (KnownHeader × ℕ)} → ((n : ℕ) → o ≡ some n → (least ≤ n) × (n ≤ most)) → look k before ≡ none
       → Say longest lines ls (adding k o before) after → Say longest (suc lines) (numberLine (start name) o ls) before after
   say-optional none h e s = record { few = omega arith; written = s .written; whole = s .whole; judged = s .judged }
   say-optional (some n) h e s = let b = h n refl in say-number (b .0) (b .1) e s
 
 -- ---- the line with the type
 
-gives-type : (t : ElementType) → Gives longest 4 (typeNumber t) (bytes "X-Binary-Element-Type: \"" ++ (typeWords t ++ bytes "\""))
-gives-type t = gives 4 (typeNumber t) _ (bytes "X-Binary-Element-Type") (bytes " \"" ++ (typeWords t ++ bytes "\"")) (go t)
+gives-type : (t : ElementType) → Gives longest Kind (typeNumber t) (bytes "X-Binary-Element-Type: \"" ++ (typeWords t ++ bytes "\""))
+gives-type t = gives Kind (typeNumber t) _ (bytes "X-Binary-Element-Type") (bytes " \"" ++ (typeWords t ++ bytes "\"")) (go t)
   where
     go : (t : ElementType)
-        → seen 4 (bytes "X-Binary-Element-Type: \"" ++ (typeWords t ++ bytes "\"")) (bytes "X-Binary-Element-Type") (bytes " \"" ++ (typeWords t ++ bytes "\""))
-        ≡ (false, some (bytes "X-Binary-Element-Type", bytes " \"" ++ (typeWords t ++ bytes "\"")), some 4, some (typeNumber t), none)
+        → seen Kind (bytes "X-Binary-Element-Type: \"" ++ (typeWords t ++ bytes "\"")) (bytes "X-Binary-Element-Type") (bytes " \"" ++ (typeWords t ++ bytes "\""))
+        ≡ (false, some (bytes "X-Binary-Element-Type", bytes " \"" ++ (typeWords t ++ bytes "\"")), some Kind, some (typeNumber t), none)
     go U8 = refl
     go S8 = refl
     go U16 = refl
@@ -115,11 +117,11 @@ gives-type t = gives 4 (typeNumber t) _ (bytes "X-Binary-Element-Type") (bytes "
 -- ---- all lines
 
 -- all lines of a section's headers, after which these are found
-abbrev SayAll : List (List ℕ) → List (ℕ × ℕ) → Type 0
+abbrev SayAll : List (List ℕ) → List (KnownHeader × ℕ) → Type 0
 SayAll ls after = (length ls < fileLimit) × AllWritten longest true ls × (judge (group (placed 0 ls) .headers) [] ≡ found after)
 
 -- the first two are one header
-say-first : {lines : ℕ} {ls : List (List ℕ)} {after : List (ℕ × ℕ)} → lines + 2 < fileLimit → Say longest lines ls ((3, 1) ∷ []) after
+say-first : {lines : ℕ} {ls : List (List ℕ)} {after : List (KnownHeader × ℕ)} → lines + 2 < fileLimit → Say longest lines ls ((ContentType, 1) ∷ []) after
     → SayAll (bytes "Content-Type: application/octet-stream;" ∷ bytes "     conversions=\"x-CBF_BYTE_OFFSET\"" ∷ ls) after
 unfolding AllWritten placed judge
 say-first h s = (
@@ -129,26 +131,28 @@ say-first h s = (
 )
 
 -- what is found
-abbrev houseFound : ℕ → Description → List (ℕ × ℕ)
+abbrev houseFound : ℕ → Description → List (KnownHeader × ℕ)
 houseFound size d =
-    adding 9 (d .third)
-    (adding 8 (d .second)
-    (adding 7 (d .fastest) ((2, d .elements) ∷ (5, 1) ∷ (4, typeNumber (d .type)) ∷ adding 6 (d .id) ((1, size) ∷ (0, 0) ∷ (3, 1) ∷ []))))
+    adding Third (d .third)
+    (adding Second (d .second)
+    (adding Fastest (d .fastest)
+    ((Elements, d .elements) ∷ (ByteOrder, 1) ∷ (Kind, typeNumber (d .type))
+    ∷ adding Id (d .id) ((Size, size) ∷ (TransferEncoding, 0) ∷ (ContentType, 1) ∷ []))))
 
 module _ (size : ℕ) (d : Description) (known : Known d) (fits : size ≤ 1_073_741_824) where
   say-house : SayAll (houseLines size d) (houseFound size d)
   unfolding houseLines
   say-house =
       say-first (omega arith)
-      (say-line (gives 0 0 _ (bytes "Content-Transfer-Encoding") (bytes " BINARY") refl) refl
-      (say-number 1 0 1_073_741_824 (bytes "X-Binary-Size") (λ v. refl) (omega arith) fits refl
-      (say-optional 6 1 2_147_483_647 (bytes "X-Binary-ID") (λ v. refl) (d .id) (known .id-in) refl
+      (say-line (gives TransferEncoding 0 _ (bytes "Content-Transfer-Encoding") (bytes " BINARY") refl) refl
+      (say-number Size 0 1_073_741_824 (bytes "X-Binary-Size") (λ v. refl) (omega arith) fits refl
+      (say-optional Id 1 2_147_483_647 (bytes "X-Binary-ID") (λ v. refl) (d .id) (known .id-in) refl
       (say-line (gives-type (d .type)) (simp look-other)
-      (say-line (gives 5 1 _ (bytes "X-Binary-Element-Byte-Order") (bytes " LITTLE_ENDIAN") refl) (simp look-other)
-      (say-number 2 0 67_108_864 (bytes "X-Binary-Number-of-Elements") (λ v. refl) (omega arith) (known .few) (simp look-other)
-      (say-optional 7 1 67_108_864 (bytes "X-Binary-Size-Fastest-Dimension") (λ v. refl) (d .fastest) (known .fastest-in) (simp look-other)
-      (say-optional 8 1 67_108_864 (bytes "X-Binary-Size-Second-Dimension") (λ v. refl) (d .second) (known .second-in) (simp look-other)
-      (say-optional 9 1 67_108_864 (bytes "X-Binary-Size-Third-Dimension") (λ v. refl) (d .third) (known .third-in) (simp look-other)
+      (say-line (gives ByteOrder 1 _ (bytes "X-Binary-Element-Byte-Order") (bytes " LITTLE_ENDIAN") refl) (simp look-other)
+      (say-number Elements 0 67_108_864 (bytes "X-Binary-Number-of-Elements") (λ v. refl) (omega arith) (known .few) (simp look-other)
+      (say-optional Fastest 1 67_108_864 (bytes "X-Binary-Size-Fastest-Dimension") (λ v. refl) (d .fastest) (known .fastest-in) (simp look-other)
+      (say-optional Second 1 67_108_864 (bytes "X-Binary-Size-Second-Dimension") (λ v. refl) (d .second) (known .second-in) (simp look-other)
+      (say-optional Third 1 67_108_864 (bytes "X-Binary-Size-Third-Dimension") (λ v. refl) (d .third) (known .third-in) (simp look-other)
       (say-none longest (houseFound size d)))))))))))
 
 -- ---- what the headers say

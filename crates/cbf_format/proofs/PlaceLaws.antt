@@ -15,7 +15,9 @@ use Rattle.cbf_walk.proofs.PlaceLaws.{Gives, bind-gives, Within, TestWithin, pa
 use Rattle.cbf_format.specs.Text.{textual, same, skip}
 use Rattle.cbf_format.specs.Lines.{lineOr, line, refusedByte, textLine, octets, word}
 use Rattle.cbf_format.specs.Headers.{orMalformed, malformed, headerLine, HeaderLines, addLine, moreLines, headerLines, Header, Grouped, continues, splitColon, headed, group}
-use Rattle.cbf_format.specs.Values.{oneOf, knownNames, valueOf}
+use Rattle.cbf_format.specs.declared.KnownHeader.{KnownHeader}
+use Rattle.cbf_format.specs.declared.KnownHeader.the-variants.{TransferEncoding, Size, Elements}
+use Rattle.cbf_format.specs.Values.{knownHeaders, named, valueOf}
 use Rattle.cbf_format.specs.declared.Encoding.{Encoding}
 use Rattle.cbf_format.specs.declared.Encoding.the-variants.{Binary, Base64}
 use Rattle.cbf_format.specs.Descriptions.{Description, Judged, refused-at, found, look, put, judgeHeader, onward as judgedOn, judge, description, agrees, Verdict, refuses as refusesAt, describes, described, verdictOf, verdict, concludedBy, concluded, headers}
@@ -156,21 +158,21 @@ abbrev JudgedWithin : ℕ → Judged → Type 0
 JudgedWithin m (refused-at p) = p ≤ m
 JudgedWithin m (found fs) = Unit {0}
 
-judge-within : (m : ℕ) (hs : List Header) (fs : List (ℕ × ℕ)) → HeadersWithin m hs → JudgedWithin m (judge hs fs)
+judge-within : (m : ℕ) (hs : List Header) (fs : List (KnownHeader × ℕ)) → HeadersWithin m hs → JudgedWithin m (judge hs fs)
 unfolding judge
 judge-within m [] fs h = tt
-judge-within m (x ∷ hs) fs h = on (judgeHeader x (oneOf 0 knownNames (x .name)) fs) (header (oneOf 0 knownNames (x .name))) (λ r. judge-within m hs r (h .1))
+judge-within m (x ∷ hs) fs h = on (judgeHeader x (named knownHeaders (x .name)) fs) (header (named knownHeaders (x .name))) (λ r. judge-within m hs r (h .1))
   where
-    value : (k : ℕ) (old v : Option ℕ) → JudgedWithin m (put (x .at) k old v fs)
+    value : (k : KnownHeader) (old v : Option ℕ) → JudgedWithin m (put (x .at) k old v fs)
     value k (some n) v = h .0
     value k none none = h .0
     value k none (some n) = tt
 
-    header : (o : Option ℕ) → JudgedWithin m (judgeHeader x o fs)
+    header : (o : Option KnownHeader) → JudgedWithin m (judgeHeader x o fs)
     header none = tt
     header (some k) = value k (look k fs) (valueOf k (x .value))
 
-    on : (j : Judged) → JudgedWithin m j → ((r : List (ℕ × ℕ)) → JudgedWithin m (judge hs r)) → JudgedWithin m (judgedOn (λ r. judge hs r) j)
+    on : (j : Judged) → JudgedWithin m j → ((r : List (KnownHeader × ℕ)) → JudgedWithin m (judge hs r)) → JudgedWithin m (judgedOn (λ r. judge hs r) j)
     on (refused-at p) l ih = l
     on (found r) l ih = ih r
 
@@ -186,7 +188,7 @@ verdict-within m hs w = go (judge (group (hs .lines) .headers) []) (judge-within
     agreed d true = tt
     agreed d false = (refl, w .at-empty)
 
-    all : (e n k : Option ℕ) (fs : List (ℕ × ℕ)) → VerdictWithin m (described (hs .empty) e n k fs)
+    all : (e n k : Option ℕ) (fs : List (KnownHeader × ℕ)) → VerdictWithin m (described (hs .empty) e n k fs)
     all (some e) (some n) (some k) fs = agreed (description e n k fs) (agrees (description e n k fs))
     all none n k fs = (refl, w .at-empty)
     all (some e) none k fs = (refl, w .at-empty)
@@ -194,7 +196,7 @@ verdict-within m hs w = go (judge (group (hs .lines) .headers) []) (judge-within
 
     go : (j : Judged) → JudgedWithin m j → VerdictWithin m (verdictOf (hs .empty) j)
     go (refused-at p) l = (refl, l)
-    go (found fs) l = all (look 0 fs) (look 1 fs) (look 2 fs) fs
+    go (found fs) l = all (look TransferEncoding fs) (look Size fs) (look Elements fs) fs
 
 pub headers-places : (limit most : ℕ) → Places (headers limit most)
 unfolding headers

@@ -6,41 +6,64 @@ use mathlib.Core.List.{List, [], _∷_}
 use Prim.Native.Nat.{ℕ, _≤_}
 use native.Mathlib.Omega.{arith}
 use lib.Dec.{leb, eqb}
+use lib.ListN.{getD}
 use borrow.Author.Tests.{leb-true, eqb-true}
 use Rattle.cbf_format.specs.Headers.{Header, HeaderLines, group}
-use Rattle.cbf_format.specs.Values.{number, between, oneOf, knownNames, valueOf}
-use Rattle.cbf_format.specs.Descriptions.{Description, Judged, refused-at, found, look, put, judgeHeader, onward as judgedOn, judge, sizeAgrees, dimensionsAgree, description, agrees, Verdict, refuses, describes, described, verdictOf, verdict}
+use Rattle.cbf_format.specs.declared.KnownHeader.{KnownHeader}
+use Rattle.cbf_format.specs.declared.KnownHeader.the-variants.{TransferEncoding, Size, Elements, ContentType, Kind, ByteOrder, Id, Fastest, Second, Third}
+use Rattle.cbf_format.specs.Values.{number, between, knownHeaders, named, valueOf}
+use Rattle.cbf_format.specs.Descriptions.{Description, Judged, refused-at, found, ordinal, sameHeader, look, put, judgeHeader, onward as judgedOn, judge, sizeAgrees, dimensionsAgree, description, agrees, Verdict, refuses, describes, described, verdictOf, verdict}
 use Rattle.cbf_format.proofs.LineTame.{and-true}
+
+-- ---- known headers that are the same
+
+same-header : (j k : KnownHeader) → sameHeader j k ≡ true → j ≡ k
+same-header j k e = sym (back j) ∙ ap at (eqb-true (ordinal j) (ordinal k) e) ∙ back k
+  where
+    at : ℕ → KnownHeader
+    at n = getD knownHeaders n TransferEncoding
+
+    back : (h : KnownHeader) → at (ordinal h) ≡ h
+    back TransferEncoding = refl
+    back Size = refl
+    back Elements = refl
+    back ContentType = refl
+    back Kind = refl
+    back ByteOrder = refl
+    back Id = refl
+    back Fastest = refl
+    back Second = refl
+    back Third = refl
 
 -- ---- what the headers say
 
 -- each number that was found is the value of its header
-abbrev Valued : List (ℕ × ℕ) → Type 0
-Valued fs = (k n : ℕ) → look k fs ≡ some n → (v : List ℕ) × (valueOf k v ≡ some n)
+abbrev Valued : List (KnownHeader × ℕ) → Type 0
+Valued fs = (k : KnownHeader) (n : ℕ) → look k fs ≡ some n → (v : List ℕ) × (valueOf k v ≡ some n)
 
 abbrev JudgedValued : Judged → Type 0
 JudgedValued (refused-at p) = Unit {0}
 JudgedValued (found fs) = Valued fs
 
-judge-valued : (hs : List Header) (fs : List (ℕ × ℕ)) → Valued fs → JudgedValued (judge hs fs)
+judge-valued : (hs : List Header) (fs : List (KnownHeader × ℕ)) → Valued fs → JudgedValued (judge hs fs)
 unfolding judge
 judge-valued [] fs w = w
-judge-valued (h ∷ hs) fs w = on (judgeHeader h (oneOf 0 knownNames (h .name)) fs) (header (oneOf 0 knownNames (h .name))) (λ r w. judge-valued hs r w)
+judge-valued (h ∷ hs) fs w = on (judgeHeader h (named knownHeaders (h .name)) fs) (header (named knownHeaders (h .name))) (λ r w. judge-valued hs r w)
   where
-    value : (k : ℕ) (old v : Option ℕ) → valueOf k (h .value) ≡ v → JudgedValued (put (h .at) k old v fs)
+    value : (k : KnownHeader) (old v : Option ℕ) → valueOf k (h .value) ≡ v → JudgedValued (put (h .at) k old v fs)
     value k (some n) v q = tt
     value k none none q = tt
-    value k none (some n) q = λ j m e. by j m (eqb j k) refl e
+    value k none (some n) q = λ j m e. by j m (sameHeader j k) refl e
       where
-        by : (j m : ℕ) (b : Bool) → eqb j k ≡ b → cond b (some n) (look j fs) ≡ some m → (v : List ℕ) × (valueOf j v ≡ some m)
-        by j m true p e = (h .value, ap (λ (z : ℕ). valueOf z (h .value)) (eqb-true j k p) ∙ q ∙ e)
+        by : (j : KnownHeader) (m : ℕ) (b : Bool) → sameHeader j k ≡ b → cond b (some n) (look j fs) ≡ some m → (v : List ℕ) × (valueOf j v ≡ some m)
+        by j m true p e = (h .value, ap (λ (z : KnownHeader). valueOf z (h .value)) (same-header j k p) ∙ q ∙ e)
         by j m false p e = w j m e
 
-    header : (o : Option ℕ) → JudgedValued (judgeHeader h o fs)
+    header : (o : Option KnownHeader) → JudgedValued (judgeHeader h o fs)
     header none = w
     header (some k) = value k (look k fs) (valueOf k (h .value)) refl
 
-    on : (j : Judged) → JudgedValued j → ((r : List (ℕ × ℕ)) → Valued r → JudgedValued (judge hs r)) → JudgedValued (judgedOn (λ r. judge hs r) j)
+    on : (j : Judged) → JudgedValued j → ((r : List (KnownHeader × ℕ)) → Valued r → JudgedValued (judge hs r)) → JudgedValued (judgedOn (λ r. judge hs r) j)
     on (refused-at p) v ih = tt
     on (found r) v ih = ih r v
 
@@ -73,28 +96,28 @@ unfolding verdict
 verdict-sound hs = go (judge (group (hs .lines) .headers) []) (judge-valued (group (hs .lines) .headers) [] (λ k n e. absurd (Option·none-ne-some n e)))
   where
     -- a number that was found is within its header's bounds
-    bounds : (fs : List (ℕ × ℕ)) → Valued fs → (k least most : ℕ) → ((v : List ℕ) → valueOf k v ≡ between least most (number v))
+    bounds : (fs : List (KnownHeader × ℕ)) → Valued fs → (k : KnownHeader) (least most : ℕ) → ((v : List ℕ) → valueOf k v ≡ between least most (number v))
         → (n : ℕ) → look k fs ≡ some n → (least ≤ n) × (n ≤ most)
     bounds fs w k least most b n q = let v = w k n q in between-in least most (number (v .0)) n (sym (b (v .0)) ∙ v .1)
 
-    agreed : (e n k : ℕ) (fs : List (ℕ × ℕ)) (b : Bool) → agrees (description e n k fs) ≡ b → look 2 fs ≡ some k → Valued fs
+    agreed : (e n k : ℕ) (fs : List (KnownHeader × ℕ)) (b : Bool) → agrees (description e n k fs) ≡ b → look Elements fs ≡ some k → Valued fs
         → Sound (cond b (describes (description e n k fs)) (refuses 7 (hs .empty)))
     agreed e n k fs true q h w =
         let d = description e n k fs in
         let a = and-true (sizeAgrees (d .compression) (d .type) n k) (dimensionsAgree (d .fastest) (d .second) (d .third) k) q in (
           record {
-            id-in = bounds fs w 6 1 2_147_483_647 (λ v. refl);
-            fastest-in = bounds fs w 7 1 67_108_864 (λ v. refl);
-            second-in = bounds fs w 8 1 67_108_864 (λ v. refl);
-            third-in = bounds fs w 9 1 67_108_864 (λ v. refl);
-            few = bounds fs w 2 0 67_108_864 (λ v. refl) k h .1;
+            id-in = bounds fs w Id 1 2_147_483_647 (λ v. refl);
+            fastest-in = bounds fs w Fastest 1 67_108_864 (λ v. refl);
+            second-in = bounds fs w Second 1 67_108_864 (λ v. refl);
+            third-in = bounds fs w Third 1 67_108_864 (λ v. refl);
+            few = bounds fs w Elements 0 67_108_864 (λ v. refl) k h .1;
             agree = a .1;
           },
           a .0,
         )
     agreed e n k fs false q h w = tt
 
-    all : (e n k : Option ℕ) (fs : List (ℕ × ℕ)) → look 2 fs ≡ k → Valued fs → Sound (described (hs .empty) e n k fs)
+    all : (e n k : Option ℕ) (fs : List (KnownHeader × ℕ)) → look Elements fs ≡ k → Valued fs → Sound (described (hs .empty) e n k fs)
     all (some e) (some n) (some k) fs q w = agreed e n k fs (agrees (description e n k fs)) refl q w
     all none n k fs q w = tt
     all (some e) none k fs q w = tt
@@ -102,7 +125,7 @@ verdict-sound hs = go (judge (group (hs .lines) .headers) []) (judge-valued (gro
 
     go : (j : Judged) → JudgedValued j → Sound (verdictOf (hs .empty) j)
     go (refused-at p) w = tt
-    go (found fs) w = all (look 0 fs) (look 1 fs) (look 2 fs) fs refl w
+    go (found fs) w = all (look TransferEncoding fs) (look Size fs) (look Elements fs) fs refl w
 
 module _ (hs : HeaderLines) (d : Description) (e : verdict hs ≡ describes d) where
   -- every description that headers gave is one

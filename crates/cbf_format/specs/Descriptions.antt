@@ -10,10 +10,12 @@ use Rattle.cbf_pixels.specs.declared.ElementType.the-variants.{U8, S8, U16, S16
 use Rattle.cbf_pixels.specs.declared.Compression.{Compression}
 use Rattle.cbf_pixels.specs.declared.Compression.the-variants.{Uncompressed, ByteOffset}
 use Rattle.cbf_pixels.specs.Uncompressed.{octetsPer}
+use Rattle.cbf_format.specs.declared.KnownHeader.{KnownHeader}
+use Rattle.cbf_format.specs.declared.KnownHeader.the-variants.{TransferEncoding, Size, Elements, ContentType, Kind, ByteOrder, Id, Fastest, Second, Third}
 use Rattle.cbf_format.specs.declared.Encoding.{Encoding}
 use Rattle.cbf_format.specs.declared.Encoding.the-variants.{Binary, Base64}
 use Rattle.cbf_format.specs.Headers.{Header, HeaderLines, headerLines, group}
-use Rattle.cbf_format.specs.Values.{oneOf, knownNames, valueOf}
+use Rattle.cbf_format.specs.Values.{knownHeaders, named, valueOf}
 
 pub record Description : Type 0 where
   pub encoding : Encoding
@@ -26,35 +28,51 @@ pub record Description : Type 0 where
   pub second : Option ℕ
   pub third : Option ℕ
 
--- ---- "6 over the headers in file order": the known headers by number with their values, or the place of the header that is
--- repeated or has a bad value
+-- ---- "6 over the headers in file order": the known headers with their values, or the place of the header that is repeated
+-- or has a bad value
 
 pub data Judged : Type 0 where
   refused-at : ℕ → Judged
-  found : List (ℕ × ℕ) → Judged
+  found : List (KnownHeader × ℕ) → Judged
 
-abbrev pub look : ℕ → List (ℕ × ℕ) → Option ℕ
+-- a number of each header, by which two are told apart
+abbrev pub ordinal : KnownHeader → ℕ
+ordinal TransferEncoding = 0
+ordinal Size = 1
+ordinal Elements = 2
+ordinal ContentType = 3
+ordinal Kind = 4
+ordinal ByteOrder = 5
+ordinal Id = 6
+ordinal Fastest = 7
+ordinal Second = 8
+ordinal Third = 9
+
+abbrev pub sameHeader : KnownHeader → KnownHeader → Bool
+sameHeader j k = eqb (ordinal j) (ordinal k)
+
+abbrev pub look : KnownHeader → List (KnownHeader × ℕ) → Option ℕ
 look k [] = none
-look k (f ∷ fs) = let r = look k fs in cond (eqb k (f .0)) (some (f .1)) r
+look k (f ∷ fs) = let r = look k fs in cond (sameHeader k (f .0)) (some (f .1)) r
 
 -- the value of header k at a place, where `old` was found before
-abbrev pub put : ℕ → ℕ → Option ℕ → Option ℕ → List (ℕ × ℕ) → Judged
+abbrev pub put : ℕ → KnownHeader → Option ℕ → Option ℕ → List (KnownHeader × ℕ) → Judged
 put at k (some old) v fs = refused-at at
 put at k none none fs = refused-at at
 put at k none (some n) fs = found ((k, n) ∷ fs)
 
 -- "Other headers are passed over"
-abbrev pub judgeHeader : Header → Option ℕ → List (ℕ × ℕ) → Judged
+abbrev pub judgeHeader : Header → Option KnownHeader → List (KnownHeader × ℕ) → Judged
 judgeHeader h none fs = found fs
 judgeHeader h (some k) fs = put (h .at) k (look k fs) (valueOf k (h .value)) fs
 
-abbrev pub onward : (List (ℕ × ℕ) → Judged) → Judged → Judged
+abbrev pub onward : (List (KnownHeader × ℕ) → Judged) → Judged → Judged
 onward go (refused-at p) = refused-at p
 onward go (found fs) = go fs
 
-unfoldable pub judge : List Header → List (ℕ × ℕ) → Judged
+unfoldable pub judge : List Header → List (KnownHeader × ℕ) → Judged
 judge [] fs = found fs
-judge (h ∷ hs) fs = onward (λ r. judge hs r) (judgeHeader h (oneOf 0 knownNames (h .name)) fs)
+judge (h ∷ hs) fs = onward (λ r. judge hs r) (judgeHeader h (named knownHeaders (h .name)) fs)
 
 -- ---- 7: "Counts agree when"
 
@@ -93,25 +111,25 @@ abbrev pub typeOf : ℕ → ElementType
 typeOf k = cond (leb k 3) (cond (leb k 1) U8 (cond (leb k 2) S8 U16)) (cond (leb k 4) S16 (cond (leb k 5) U32 S32))
 
 -- "Absent: unsigned 32-bit integer"
-abbrev pub description : ℕ → ℕ → ℕ → List (ℕ × ℕ) → Description
+abbrev pub description : ℕ → ℕ → ℕ → List (KnownHeader × ℕ) → Description
 description e n k fs =
     record {
       encoding = encodingOf e;
       size = n;
       elements = k;
-      compression = compressionOf (Option·getD (look 3 fs) 0);
-      type = typeOf (Option·getD (look 4 fs) 5);
-      id = look 6 fs;
-      fastest = look 7 fs;
-      second = look 8 fs;
-      third = look 9 fs;
+      compression = compressionOf (Option·getD (look ContentType fs) 0);
+      type = typeOf (Option·getD (look Kind fs) 5);
+      id = look Id fs;
+      fastest = look Fastest fs;
+      second = look Second fs;
+      third = look Third fs;
     }
 
 abbrev pub orDisagrees : ℕ → Description → Verdict
 orDisagrees empty d = cond (agrees d) (describes d) (refuses 7 empty)
 
 -- "needed one missing .. the empty line"
-abbrev pub described : ℕ → Option ℕ → Option ℕ → Option ℕ → List (ℕ × ℕ) → Verdict
+abbrev pub described : ℕ → Option ℕ → Option ℕ → Option ℕ → List (KnownHeader × ℕ) → Verdict
 described empty (some e) (some n) (some k) fs = orDisagrees empty (description e n k fs)
 described empty none n k fs = refuses 6 empty
 described empty (some e) none k fs = refuses 6 empty
@@ -119,7 +137,7 @@ described empty (some e) (some n) none fs = refuses 6 empty
 
 abbrev pub verdictOf : ℕ → Judged → Verdict
 verdictOf empty (refused-at p) = refuses 6 p
-verdictOf empty (found fs) = described empty (look 0 fs) (look 1 fs) (look 2 fs) fs
+verdictOf empty (found fs) = described empty (look TransferEncoding fs) (look Size fs) (look Elements fs) fs
 
 unfoldable pub verdict : HeaderLines → Verdict
 verdict hs = verdictOf (hs .empty) (judge (group (hs .lines) .headers) [])

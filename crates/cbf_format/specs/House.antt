@@ -5,11 +5,10 @@ use mathlib.Core.List.{List, [], _∷_, _++_}
 use Prim.Native.Nat.{ℕ, _+_}
 use lib.Dec.{ltb}
 use lib.ListN.{length}
-use Rattle.cbf_pixels.specs.declared.ElementType.{ElementType}
-use Rattle.cbf_pixels.specs.declared.ElementType.the-variants.{U8, S8, U16, S16, U32, S32}
 use Rattle.cbf_pixels.specs.declared.Compression.the-variants.{ByteOffset}
 use Rattle.cbf_format.specs.declared.Encoding.the-variants.{Binary}
 use Rattle.cbf_format.specs.Text.{bytes}
+use Rattle.cbf_format.specs.Values.{typeWords}
 use Rattle.cbf_format.specs.Descriptions.{Description}
 use Rattle.cbf_walk.specs.Edits.{exchange, exchangeBoth}
 use Rattle.cbf_format.specs.Sections.{opening, closing, marker, Section}
@@ -27,14 +26,6 @@ endedLines (l ∷ ls) = ended l ++ endedLines ls
 abbrev pub numberLine : List ℕ → Option ℕ → List (List ℕ) → List (List ℕ)
 numberLine name none ls = ls
 numberLine name (some n) ls = (name ++ printed n) ∷ ls
-
-abbrev pub typeWords : ElementType → List ℕ
-typeWords U8 = bytes "unsigned 8-bit integer"
-typeWords S8 = bytes "signed 8-bit integer"
-typeWords U16 = bytes "unsigned 16-bit integer"
-typeWords S16 = bytes "signed 16-bit integer"
-typeWords U32 = bytes "unsigned 32-bit integer"
-typeWords S32 = bytes "signed 32-bit integer"
 
 -- the header lines of a section with that many octets; "Dimension lines, if any, follow the elements line, fastest first"
 unfoldable pub houseLines : ℕ → Description → List (List ℕ)

@@ -2,9 +2,13 @@
 use mathlib.Core.Option.{Option, none, some}
 use mathlib.Core.Bool.{Bool, true, false, _&&_, cond, not}
 use mathlib.Core.List.{List, [], _∷_}
-use Prim.Native.Nat.{ℕ, zero, suc, _+_, _*_, _-_}
+use Prim.Native.Nat.{ℕ, suc, _+_, _*_, _-_}
 use lib.Dec.{leb, eqb}
 use lib.ListN.{length}
+use Rattle.cbf_pixels.specs.declared.ElementType.{ElementType}
+use Rattle.cbf_pixels.specs.declared.ElementType.the-variants.{U8, S8, U16, S16, U32, S32}
+use Rattle.cbf_format.specs.declared.KnownHeader.{KnownHeader}
+use Rattle.cbf_format.specs.declared.KnownHeader.the-variants.{TransferEncoding, Size, Elements, ContentType, Kind, ByteOrder, Id, Fastest, Second, Third}
 use Rattle.cbf_format.specs.declared.Conversion.{Conversion}
 use Rattle.cbf_format.specs.declared.Conversion.the-variants.{Unseen, Seen, Wrong}
 use Rattle.cbf_format.specs.Text.{bytes, digit, lowers, same, trim, before, after}
@@ -89,40 +93,52 @@ contentType none = none
 contentType (some []) = some 0
 contentType (some (p ∷ ps)) = conversions Unseen ps
 
--- ---- the known headers, in the order listed
+-- ---- the known headers
 
-abbrev pub knownNames : List (List ℕ)
-knownNames =
-    bytes "content-transfer-encoding"
-    ∷ bytes "x-binary-size"
-    ∷ bytes "x-binary-number-of-elements"
-    ∷ bytes "content-type"
-    ∷ bytes "x-binary-element-type"
-    ∷ bytes "x-binary-element-byte-order"
-    ∷ bytes "x-binary-id"
-    ∷ bytes "x-binary-size-fastest-dimension"
-    ∷ bytes "x-binary-size-second-dimension"
-    ∷ bytes "x-binary-size-third-dimension"
-    ∷ []
+-- "Names and word values ignore case": in lower case
+abbrev pub nameOf : KnownHeader → List ℕ
+nameOf TransferEncoding = bytes "content-transfer-encoding"
+nameOf Size = bytes "x-binary-size"
+nameOf Elements = bytes "x-binary-number-of-elements"
+nameOf ContentType = bytes "content-type"
+nameOf Kind = bytes "x-binary-element-type"
+nameOf ByteOrder = bytes "x-binary-element-byte-order"
+nameOf Id = bytes "x-binary-id"
+nameOf Fastest = bytes "x-binary-size-fastest-dimension"
+nameOf Second = bytes "x-binary-size-second-dimension"
+nameOf Third = bytes "x-binary-size-third-dimension"
 
--- "unsigned or signed, 8, 16 or 32", numbered as in the catalogue from 1
+-- in the order listed
+abbrev pub knownHeaders : List KnownHeader
+knownHeaders = TransferEncoding ∷ Size ∷ Elements ∷ ContentType ∷ Kind ∷ ByteOrder ∷ Id ∷ Fastest ∷ Second ∷ Third ∷ []
+
+-- the header of a list whose name the text is, in any case
+abbrev pub named : List KnownHeader → List ℕ → Option KnownHeader
+named [] t = none
+named (h ∷ hs) t = let r = named hs t in cond (same (nameOf h) (lowers t)) (some h) r
+
+-- "unsigned or signed, 8, 16 or 32"
+abbrev pub typeWords : ElementType → List ℕ
+typeWords U8 = bytes "unsigned 8-bit integer"
+typeWords S8 = bytes "signed 8-bit integer"
+typeWords U16 = bytes "unsigned 16-bit integer"
+typeWords S16 = bytes "signed 16-bit integer"
+typeWords U32 = bytes "unsigned 32-bit integer"
+typeWords S32 = bytes "signed 32-bit integer"
+
+-- numbered as in the catalogue, from 1
 abbrev pub typeNames : List (List ℕ)
-typeNames =
-    bytes "unsigned 8-bit integer"
-    ∷ bytes "signed 8-bit integer"
-    ∷ bytes "unsigned 16-bit integer"
-    ∷ bytes "signed 16-bit integer"
-    ∷ bytes "unsigned 32-bit integer"
-    ∷ bytes "signed 32-bit integer"
-    ∷ []
+typeNames = typeWords U8 ∷ typeWords S8 ∷ typeWords U16 ∷ typeWords S16 ∷ typeWords U32 ∷ typeWords S32 ∷ []
 
--- the value of the known header k, none where it is bad
-abbrev pub valueOf : ℕ → List ℕ → Option ℕ
-valueOf zero v = oneOf 0 (bytes "binary" ∷ bytes "base64" ∷ []) v
-valueOf (suc zero) v = between 0 1_073_741_824 (number v)
-valueOf (suc (suc zero)) v = between 0 67_108_864 (number v)
-valueOf (suc (suc (suc zero))) v = contentType (parts false v)
-valueOf (suc (suc (suc (suc zero)))) v = quotedOneOf 1 typeNames (unquote v)
-valueOf (suc (suc (suc (suc (suc zero))))) v = quotedOneOf 1 (bytes "little_endian" ∷ []) (unquote v)
-valueOf (suc (suc (suc (suc (suc (suc zero)))))) v = between 1 2_147_483_647 (number v)
-valueOf (suc (suc (suc (suc (suc (suc (suc k))))))) v = between 1 67_108_864 (number v)
+-- the value of a known header, none where it is bad
+abbrev pub valueOf : KnownHeader → List ℕ → Option ℕ
+valueOf TransferEncoding v = oneOf 0 (bytes "binary" ∷ bytes "base64" ∷ []) v
+valueOf Size v = between 0 1_073_741_824 (number v)
+valueOf Elements v = between 0 67_108_864 (number v)
+valueOf ContentType v = contentType (parts false v)
+valueOf Kind v = quotedOneOf 1 typeNames (unquote v)
+valueOf ByteOrder v = quotedOneOf 1 (bytes "little_endian" ∷ []) (unquote v)
+valueOf Id v = between 1 2_147_483_647 (number v)
+valueOf Fastest v = between 1 67_108_864 (number v)
+valueOf Second v = between 1 67_108_864 (number v)
+valueOf Third v = between 1 67_108_864 (number v)

@@ -20,6 +20,30 @@ pub enum Encoding {
     Base64,
 }
 
+// The headers whose values are read, in the order that document 01 lists them; "other headers are passed over".
+pub enum KnownHeader {
+    // Content-Transfer-Encoding
+    TransferEncoding,
+    // X-Binary-Size
+    Size,
+    // X-Binary-Number-of-Elements
+    Elements,
+    // Content-Type
+    ContentType,
+    // X-Binary-Element-Type
+    Kind,
+    // X-Binary-Element-Byte-Order
+    ByteOrder,
+    // X-Binary-ID
+    Id,
+    // X-Binary-Size-Fastest-Dimension
+    Fastest,
+    // X-Binary-Size-Second-Dimension
+    Second,
+    // X-Binary-Size-Third-Dimension
+    Third,
+}
+
 // What the parts of Content-Type have said so far of conversions: nothing, byte offset, or what is no value of it.
 pub enum Conversion {
     Unseen,

@@ -1,5 +1,5 @@
 -- What the code computes of a section's description is what the definitions say. Assumes nothing.
-use Prim.Native.Nat.{ℕ, zero, suc, _*_, _-_, _<_, _≤_, _^_}
+use Prim.Native.Nat.{ℕ, zero, suc, _+_, _*_, _-_, _<_, _≤_, _^_}
 use native.Mathlib.Omega.{arith}
 use native.Mathlib.Nat.{mul-le-mul, le-mul-of-pos-right}
 use mathlib.Core.Path.{_≡_, refl, sym, ap, _∙_}
@@ -7,7 +7,6 @@ use mathlib.Core.Option.{Option, none, some, Option·getD}
 use mathlib.Core.Bool.{true, false}
 use mathlib.Core.List.{List}
 use lib.Dec.{eqb, eqb·suc-zero}
-use lib.ListN.{getD}
 use mir.Val.{Fits}
 use mir.Syntax.{w64}
 use borrow.Author.Tests.{le-leb, lt-leb, ne-eqb}
@@ -15,9 +14,12 @@ use Rattle.cbf_pixels.specs.declared.ElementType.{ElementType}
 use Rattle.cbf_pixels.specs.declared.ElementType.the-variants.{U8, S32}
 use Rattle.cbf_pixels.specs.declared.Compression.{Compression}
 use Rattle.cbf_format.specs.declared.Encoding.{Encoding}
-use Rattle.cbf_format.specs.Descriptions.{Description, typeOf, sizeAgrees, dimensionsAgree, orDisagrees}
-use Rattle.cbf_reader.specs.Found.{held, foundOf, optional, describedBy}
+use Rattle.cbf_format.specs.declared.KnownHeader.{KnownHeader}
+use Rattle.cbf_format.specs.Descriptions.{Description, look, typeOf, sizeAgrees, dimensionsAgree, orDisagrees}
+use Rattle.cbf_reader.specs.Found.{oneMore, foundOf, fieldOf, givenOr, optional, describedBy}
+use Rattle.cbf_reader.specs.declared.found.Found.{Found}
 use Rattle.cbf_reader.specs.declared.describe.Described.the-variants.{Disagree, As}
+use Rattle.cbf_reader.proofs.FoundLaws.{found-field}
 
 -- ---- numbers
 
@@ -52,26 +54,30 @@ none-given (suc n) elements = eqb·suc-zero n
 pub too-many : (area third elements : ℕ) → elements < area → (third ≡ 0 → ⊥) → eqb (area * third) elements ≡ false
 too-many area third elements h p = ne-eqb (area * third) elements (λ e. omega (arith, le-mul-of-pos-right {m = third} area (omega arith)))
 
--- ---- a value as the code holds it: one more than the value, or 0
+-- ---- a value as the code keeps it: one more than the value, or 0
 
-pub absent : {v : ℕ} (o : Option ℕ) → v ≡ held o → v ≡ 0 → o ≡ none
+pub absent : {v : ℕ} (o : Option ℕ) → v ≡ oneMore o → v ≡ 0 → o ≡ none
 absent none e h = refl
 absent (some n) e h = absurd (omega arith)
 
-pub there : {v : ℕ} (o : Option ℕ) → v ≡ held o → (v ≡ 0 → ⊥) → o ≡ some (v - 1)
+pub there : {v : ℕ} (o : Option ℕ) → v ≡ oneMore o → (v ≡ 0 → ⊥) → o ≡ some (v - 1)
 there none e h = absurd (h e)
 there {v} (some n) e h = let k : n ≡ v - 1 = omega arith in ap some k
 
-pub or-zero : {v : ℕ} (o : Option ℕ) → v ≡ held o → v - 1 ≡ Option·getD o 0
-or-zero none e = omega arith
-or-zero (some n) e = omega arith
+pub given-or : {v : ℕ} (absent : ℕ) (o : Option ℕ) → v ≡ oneMore o → givenOr absent v ≡ Option·getD o absent
+given-or absent none e = ap (givenOr absent) e
+given-or absent (some n) e = let s : n + 1 ≡ suc n = omega arith in ap (givenOr absent) (e ∙ s)
 
-pub dimension : {r v : ℕ} (o : Option ℕ) → r ≡ v - 1 → v ≡ held o → (v ≡ 1 → ⊥) → optional r ≡ o
-dimension {r} none g e h = let k : r ≡ 0 = omega arith in ap optional k
-dimension {r} (some n) g e h = let k : r ≡ n = omega arith in ap optional k ∙ optional-some n (λ z. h (omega arith))
+pub given-few : {r v limit : ℕ} → r ≡ givenOr 0 v → v ≤ limit → r ≤ limit
+given-few {v = zero} e h = omega arith
+given-few {v = suc n} e h = omega arith
 
-pub found-at : {values : List ℕ} (fs : List (ℕ × ℕ)) (j : ℕ) → values ≡ foundOf fs → getD values j 0 ≡ getD (foundOf fs) j 0
-found-at fs j e = ap (λ l. getD l j 0) e
+pub dimension : {r v : ℕ} (o : Option ℕ) → r ≡ givenOr 0 v → v ≡ oneMore o → (v ≡ 1 → ⊥) → optional r ≡ o
+dimension none g e h = ap optional (g ∙ given-or 0 none e)
+dimension (some n) g e h = ap optional (g ∙ given-or 0 (some n) e) ∙ optional-some n (λ z. h (omega arith))
+
+pub found-at : {values : Found} (fs : List (KnownHeader × ℕ)) (k : KnownHeader) → values ≡ foundOf fs → fieldOf k values ≡ oneMore (look k fs)
+found-at fs k e = ap (fieldOf k) e ∙ found-field fs k
 
 -- ---- what the code has computed of a description
 

@@ -1,122 +1,46 @@
 -- Judging the headers one after another: what each header does to the values found, and what is left. Assumes nothing.
 use mathlib.Core.Path.{_≡_, refl, sym, ap, _∙_, subst}
 use mathlib.Core.Option.{Option, none, some}
-use mathlib.Core.Bool.{Bool, true, false, cond}
+use mathlib.Core.Bool.{true, false}
 use mathlib.Core.List.{List, [], _∷_}
-use Prim.Native.Nat.{ℕ, zero, suc, _+_, _-_, _≤_, _<_, _^_}
+use Prim.Native.Nat.{ℕ, _+_, _-_, _<_, _≤_, _^_}
 use native.Mathlib.Omega.{arith}
-use lib.Dec.{eqb, ltb}
-use lib.ListN.{length, getD, set, length-set, List·getD-eq-default}
-use lib.Seq.{slice, getD-set-same, getD-set-other, ext-getD}
-use borrow.Author.Tests.{eqb-true, eqb-false, ltb-true, ltb-false}
-use Rattle.cbf_format.specs.Text.{trim, same, lowers}
+use lib.ListN.{length}
+use lib.Seq.{slice}
+use Rattle.cbf_format.specs.declared.KnownHeader.{KnownHeader}
+use Rattle.cbf_format.specs.Text.{trim}
 use Rattle.cbf_format.specs.Headers.{Header, Grouped, group}
-use Rattle.cbf_format.specs.Values.{oneOf, knownNames, valueOf}
-use Rattle.cbf_format.specs.Descriptions.{look, put, judgeHeader, onward, judge}
+use Rattle.cbf_format.specs.Values.{knownHeaders, named, valueOf}
+use Rattle.cbf_format.specs.Descriptions.{ordinal, look, put, judgeHeader, onward, judge}
 use Rattle.cbf_format.specs.Descriptions as D
 use Rattle.cbf_reader.specs.Values.{joined, wholeOf, knownOf, InRangeOf}
-use Rattle.cbf_reader.specs.Found.{held, foundOf, InRange}
+use Rattle.cbf_reader.specs.Found.{oneMore, foundOf, fieldOf, Stored, InRange}
 use Rattle.cbf_reader.specs.HeaderPlaces.{HeadersHere, HeaderParts, judgedAt}
+use Rattle.cbf_reader.specs.declared.found.Found.{Found}
+use Rattle.cbf_reader.specs.declared.header.Name.{Name}
+use Rattle.cbf_reader.specs.declared.header.Name.the-variants.{Known, Other}
 use Rattle.cbf_reader.specs.declared.header_parts.Parts.{Parts}
 use Rattle.cbf_reader.specs.declared.judge.Judged.{Judged}
 use Rattle.cbf_reader.specs.declared.value.Whole.{Whole}
 use Rattle.cbf_reader.specs.declared.value.Whole.the-variants.{Bad, Number}
+use Rattle.cbf_reader.proofs.FoundLaws.{found-field, found-more, range-more}
 use Rattle.cbf_reader.proofs.HeaderLaws.{lines-none, lines-end}
 
--- ---- the values, by their number
-
--- n of them, from number j on
-heldFrom : List (ℕ × ℕ) → ℕ → ℕ → List ℕ
-heldFrom fs j zero = []
-heldFrom fs j (suc n) = held (look j fs) ∷ heldFrom fs (suc j) n
-
-held-length : (fs : List (ℕ × ℕ)) (j n : ℕ) → length (heldFrom fs j n) ≡ n
-unfolding heldFrom
-held-length fs j zero = refl
-held-length fs j (suc n) = ap suc (held-length fs (suc j) n)
-
-held-at : (fs : List (ℕ × ℕ)) (j n i : ℕ) → i < n → getD (heldFrom fs j n) i 0 ≡ held (look (j + i) fs)
-unfolding heldFrom
-held-at fs j zero i h = absurd (let z : ⊥ = omega arith in z)
-held-at fs j (suc n) zero h = let q : j ≡ j + 0 = omega arith in ap (λ (a : ℕ). held (look a fs)) q
-held-at fs j (suc n) (suc i) h =
-    let q : suc j + i ≡ j + suc i = omega arith in
-    held-at fs (suc j) n i (omega arith) ∙ ap (λ (a : ℕ). held (look a fs)) q
-
-found-is : (fs : List (ℕ × ℕ)) → foundOf fs ≡ heldFrom fs 0 10
-unfolding foundOf heldFrom
-found-is fs = refl
-
-pub found-length : (fs : List (ℕ × ℕ)) → length (foundOf fs) ≡ 10
-found-length fs = ap length (found-is fs) ∙ held-length fs 0 10
-
-pub found-at : (fs : List (ℕ × ℕ)) (i : ℕ) → i < 10 → getD (foundOf fs) i 0 ≡ held (look i fs)
-found-at fs i h =
-    let q : 0 + i ≡ i = omega arith in
-    ap (λ (l : List ℕ). getD l i 0) (found-is fs) ∙ held-at fs 0 10 i h ∙ ap (λ (a : ℕ). held (look a fs)) q
-
--- one value more
-pub found-set : (fs : List (ℕ × ℕ)) (k n : ℕ) → k < 10 → set (foundOf fs) k (n + 1) ≡ foundOf ((k, n) ∷ fs)
-found-set fs k n h = ext-getD 0 (set (foundOf fs) k (n + 1)) (foundOf ((k, n) ∷ fs)) (sized ∙ sym (found-length ((k, n) ∷ fs))) (λ i b. at i (omega (arith, sized)))
-  where
-    sized : length (set (foundOf fs) k (n + 1)) ≡ 10
-    sized = length-set (foundOf fs) k (n + 1) ∙ found-length fs
-
-    go : (i : ℕ) (b : Bool) → eqb i k ≡ b → i < 10 → getD (set (foundOf fs) k (n + 1)) i 0 ≡ held (cond b (some n) (look i fs))
-    go i true e l =
-        ap (λ (a : ℕ). getD (set (foundOf fs) k (n + 1)) a 0) (eqb-true i k e) ∙ getD-set-same (foundOf fs) k (n + 1) 0 (omega (arith, found-length fs))
-    go i false e l = getD-set-other (foundOf fs) k i (n + 1) 0 (eqb-false i k e) ∙ found-at fs i l
-
-    at : (i : ℕ) → i < 10 → getD (set (foundOf fs) k (n + 1)) i 0 ≡ getD (foundOf ((k, n) ∷ fs)) i 0
-    at i l = go i (eqb i k) refl l ∙ sym (found-at ((k, n) ∷ fs) i l)
-
--- a value in range keeps the values so
-pub range-set : (values : List ℕ) (k n : ℕ) → InRange values → k < length values → n < 2 ^ 31 → (7 ≤ k → 1 ≤ n) → InRange (set values k (n + 1))
-range-set values k n r l most least = record { most = λ j. most-at j (eqb j k) refl; least = λ j h. least-at j (eqb j k) refl h }
-  where
-    stored : (j : ℕ) → eqb j k ≡ true → getD (set values k (n + 1)) j 0 ≡ n + 1
-    stored j e = ap (λ (a : ℕ). getD (set values k (n + 1)) a 0) (eqb-true j k e) ∙ getD-set-same values k (n + 1) 0 l
-
-    kept : (j : ℕ) → eqb j k ≡ false → getD (set values k (n + 1)) j 0 ≡ getD values j 0
-    kept j e = getD-set-other values k j (n + 1) 0 (eqb-false j k e)
-
-    most-at : (j : ℕ) (b : Bool) → eqb j k ≡ b → getD (set values k (n + 1)) j 0 ≤ 2 ^ 31
-    most-at j true e = omega (arith, stored j e)
-    most-at j false e = omega (arith, kept j e, r .most j)
-
-    least-at : (j : ℕ) (b : Bool) → eqb j k ≡ b → 7 ≤ j → getD (set values k (n + 1)) j 0 ≡ 1 → ⊥
-    least-at j true e h z = let p : 1 ≤ n = least (omega (arith, eqb-true j k e)) in omega (arith, stored j e)
-    least-at j false e h z = r .least j h (sym (kept j e) ∙ z)
+-- ---- the range of a value
 
 -- what the range of a value says of a number
-pub number-range : (k : ℕ) {v : Whole} {n : ℕ} → v ≡ Number n → InRangeOf k v → (n < 2 ^ 31) × (7 ≤ k → 1 ≤ n)
+pub number-range : (k : KnownHeader) {v : Whole} {n : ℕ} → v ≡ Number n → InRangeOf k v → (n < 2 ^ 31) × (7 ≤ ordinal k → 1 ≤ n)
 number-range k b g = subst (λ (x : Whole). InRangeOf k x) b g
 
--- ---- the known headers are ten
+-- ---- the name of a header
 
-one-of-below : (ws : List (List ℕ)) (j : ℕ) (t : List ℕ) (k : ℕ) → oneOf j ws t ≡ some k → k < j + length ws
-one-of-below [] j t k e = let z : _≡_ {A = ℕ} 0 1 = cc in absurd (omega arith)
-one-of-below (w ∷ ws) j t k e = go (same w (lowers t)) (λ q. one-of-below ws (suc j) t k q) e
-  where
-    go : (b : Bool) → (oneOf (suc j) ws t ≡ some k → k < suc j + length ws) → cond b (some j) (oneOf (suc j) ws t) ≡ some k → k < j + suc (length ws)
-    go true l e = let q : j ≡ k = cc in omega arith
-    go false l e = omega (arith, l e)
+is-other : (o : Option KnownHeader) → Other ≡ knownOf o → o ≡ none
+is-other none e = refl
+is-other (some j) e = let z : _≡_ {A = ℕ} 0 1 = cc in absurd (omega arith)
 
--- the number of a name
-module _ (t : List ℕ) {k : ℕ} (e : k ≡ knownOf (oneOf 0 knownNames t)) where
-  pub is-known : k < 10 → oneOf 0 knownNames t ≡ some k
-  is-known h = go (oneOf 0 knownNames t) e
-    where
-      go : (o : Option ℕ) → k ≡ knownOf o → o ≡ some k
-      go none e = absurd (let z : ⊥ = omega arith in z)
-      go (some j) e = ap some (sym e)
-
-  pub is-unknown : 10 ≤ k → oneOf 0 knownNames t ≡ none
-  is-unknown h = go (oneOf 0 knownNames t) refl e
-    where
-      go : (o : Option ℕ) → oneOf 0 knownNames t ≡ o → k ≡ knownOf o → oneOf 0 knownNames t ≡ none
-      go none q e = q
-      go (some j) q e = absurd (let z : ⊥ = omega (arith, one-of-below knownNames 0 t j q) in z)
+is-known : {k : KnownHeader} (o : Option KnownHeader) → Known k ≡ knownOf o → o ≡ some k
+is-known none e = let z : _≡_ {A = ℕ} 0 1 = cc in absurd (omega arith)
+is-known {k} (some j) e = let q : j ≡ k = cc in ap some q
 
 -- ---- the loop
 
@@ -125,14 +49,14 @@ abbrev pub Answers : List ℕ → ℕ → ℕ → Judged → Type 0
 Answers file from empty r = (h : HeadersHere file from empty) → judgedAt (h .at) r (judge (group (h .lines) .headers) [])
 
 -- what is left of the headers h, where those before at gave fs
-pub record Left (file : List ℕ) (from empty at : ℕ) (fs : List (ℕ × ℕ)) (h : HeadersHere file from empty) : Type 0 where
+pub record Left (file : List ℕ) (from empty at : ℕ) (fs : List (KnownHeader × ℕ)) (h : HeadersHere file from empty) : Type 0 where
   pub on : HeadersHere file at empty
   pub same-start : on .at ≡ h .at
   pub judged : judge (group (h .lines) .headers) [] ≡ judge (group (on .lines) .headers) fs
 
 -- the loop's invariant
-pub record Judging (file : List ℕ) (from empty at : ℕ) (values : List ℕ) : Type 0 where
-  pub fs : List (ℕ × ℕ)
+pub record Judging (file : List ℕ) (from empty at : ℕ) (values : Found) : Type 0 where
+  pub fs : List (KnownHeader × ℕ)
   pub holds : values ≡ foundOf fs
   pub range : InRange values
   pub left : (h : HeadersHere file from empty) → Left file from empty at fs h
@@ -144,29 +68,19 @@ headers-inside {file} h =
     omega (arith, h .is-empty, l .0, l .1)
 
 -- none is judged
-pub judging-none : (file : List ℕ) (from empty : ℕ) → Judging file from empty from (foundOf [])
-judging-none file from empty = record {
+pub judging-none : {values : Found} (file : List ℕ) (from empty : ℕ) → values ≡ foundOf [] → Judging file from empty from values
+judging-none {values} file from empty e = record {
   fs = [];
-  holds = refl;
-  range = record { most = most; least = λ j h e. least j e };
+  holds = e;
+  range = record { most = λ k. omega (arith, zero-at k); least = λ k h o. omega (arith, zero-at k) };
   left = λ h. record { on = h; same-start = refl; judged = refl };
 }
   where
-    zero-at : (j : ℕ) → getD (foundOf []) j 0 ≡ 0
-    zero-at j = go (ltb j 10) refl
-      where
-        go : (b : Bool) → ltb j 10 ≡ b → getD (foundOf []) j 0 ≡ 0
-        go true e = found-at [] j (ltb-true j 10 e)
-        go false e = List·getD-eq-default (foundOf []) 0 {n = j} (omega (arith, ltb-false j 10 e, found-length []))
-
-    most : (j : ℕ) → getD (foundOf []) j 0 ≤ 2 ^ 31
-    most j = omega (arith, zero-at j)
-
-    least : (j : ℕ) → getD (foundOf []) j 0 ≡ 1 → ⊥
-    least j e = omega (arith, zero-at j)
+    zero-at : (k : KnownHeader) → fieldOf k values ≡ 0
+    zero-at k = ap (fieldOf k) e ∙ found-field [] k
 
 -- all are judged
-pub judging-all : {file : List ℕ} {from empty at : ℕ} {values : List ℕ} (place : ℕ) → Judging file from empty at values → empty ≤ at
+pub judging-all : {file : List ℕ} {from empty at : ℕ} {values : Found} (place : ℕ) → Judging file from empty at values → empty ≤ at
     → Answers file from empty (record { refused = false; place = place; values = values })
 unfolding judge
 judging-all {file} {values = values} place t e h =
@@ -176,14 +90,14 @@ judging-all {file} {values = values} place t e h =
     let q : judge (group (h .lines) .headers) [] ≡ D.found (t .fs) = l .judged ∙ ap (λ (ls : List (ℕ × List ℕ)). judge (group ls .headers) (t .fs)) n in
     subst (λ (j : D.Judged). judgedAt (h .at) (record { refused = false; place = place; values = values }) j) (sym q) (refl, t .holds)
 
-module _ {file : List ℕ} {from empty at : ℕ} {values : List ℕ} {r : Parts} (t : Judging file from empty at values) (ps : (h : HeadersHere file at empty) → HeaderParts file at empty h r) where
+module _ {file : List ℕ} {from empty at : ℕ} {values : Found} {r : Parts} (t : Judging file from empty at values) (ps : (h : HeadersHere file at empty) → HeaderParts file at empty h r) where
   -- the header, m bytes after the start
   abbrev headerAt : ℕ → Header
   headerAt m = record { at = m; name = slice at (r .colon) file; value = trim (joined (slice (r .colon + 1) (r .to) file)) }
 
   -- what it gives
   abbrev pub judgedHere : ℕ → D.Judged
-  judgedHere m = judgeHeader (headerAt m) (oneOf 0 knownNames (slice at (r .colon) file)) (t .fs)
+  judgedHere m = judgeHeader (headerAt m) (named knownHeaders (slice at (r .colon) file)) (t .fs)
 
   first-judged : (h : HeadersHere file from empty)
       → judge (group (h .lines) .headers) [] ≡ onward (λ fs. judge (group (ps (t .left h .on) .rest) .headers) fs) (judgedHere (t .left h .on .m))
@@ -207,7 +121,7 @@ module _ {file : List ℕ} {from empty at : ℕ} {values : List ℕ} {r : Parts}
         fresh = p .fresh;
       }
 
-  judging-on : (fs : List (ℕ × ℕ)) (vs : List ℕ) → vs ≡ foundOf fs → InRange vs → ((m : ℕ) → judgedHere m ≡ D.found fs) → Judging file from empty (r .next) vs
+  judging-on : (fs : List (KnownHeader × ℕ)) (vs : Found) → vs ≡ foundOf fs → InRange vs → ((m : ℕ) → judgedHere m ≡ D.found fs) → Judging file from empty (r .next) vs
   unfolding next-headers
   judging-on fs vs e g q = record {
     fs = fs;
@@ -226,31 +140,33 @@ module _ {file : List ℕ} {from empty at : ℕ} {values : List ℕ} {r : Parts}
       let w : judge (group (h .lines) .headers) [] ≡ D.refused-at (o .m) = first-judged h ∙ ap (onward (λ fs. judge (group (ps o .rest) .headers) fs)) (q (o .m)) in
       subst (λ (j : D.Judged). judgedAt (h .at) (record { refused = true; place = at; values = values }) j) (sym w) (refl, omega (arith, o .is-from, t .left h .same-start))
 
-  module _ {k : ℕ} (e : k ≡ knownOf (oneOf 0 knownNames (slice at (r .colon) file))) where
+  module _ {name : Name} (e : name ≡ knownOf (named knownHeaders (slice at (r .colon) file))) where
     -- another header is passed over
-    pub judging-unknown : 10 ≤ k → Judging file from empty (r .next) values
-    judging-unknown h = judging-on (t .fs) values (t .holds) (t .range) (λ m. ap (λ (o : Option ℕ). judgeHeader (headerAt m) o (t .fs)) (is-unknown (slice at (r .colon) file) e h))
+    pub judging-other : name ≡ Other → Judging file from empty (r .next) values
+    judging-other o =
+        judging-on (t .fs) values (t .holds) (t .range)
+        (λ m. ap (λ (n : Option KnownHeader). judgeHeader (headerAt m) n (t .fs)) (is-other (named knownHeaders (slice at (r .colon) file)) (sym o ∙ e)))
 
-    module _ (h : k < 10) where
+    module _ {k : KnownHeader} (h : name ≡ Known k) where
       known-judged : (m : ℕ) → judgedHere m ≡ put m k (look k (t .fs)) (valueOf k (headerAt m .value)) (t .fs)
-      known-judged m = ap (λ (o : Option ℕ). judgeHeader (headerAt m) o (t .fs)) (is-known (slice at (r .colon) file) e h)
+      known-judged m = ap (λ (n : Option KnownHeader). judgeHeader (headerAt m) n (t .fs)) (is-known (named knownHeaders (slice at (r .colon) file)) (sym h ∙ e))
 
-      value-held : getD values k 0 ≡ held (look k (t .fs))
-      value-held = ap (λ (l : List ℕ). getD l k 0) (t .holds) ∙ found-at (t .fs) k h
+      field-is : fieldOf k values ≡ oneMore (look k (t .fs))
+      field-is = ap (fieldOf k) (t .holds) ∙ found-field (t .fs) k
 
       -- a repeated header
-      pub judging-repeated : (getD values k 0 ≡ 0 → ⊥) → Answers file from empty (record { refused = true; place = at; values = values })
-      judging-repeated z = judging-refused (λ m. known-judged m ∙ go m (look k (t .fs)) value-held)
+      pub judging-repeated : (fieldOf k values ≡ 0 → ⊥) → Answers file from empty (record { refused = true; place = at; values = values })
+      judging-repeated z = judging-refused (λ m. known-judged m ∙ go m (look k (t .fs)) field-is)
         where
-          go : (m : ℕ) (o : Option ℕ) → getD values k 0 ≡ held o → put m k o (valueOf k (headerAt m .value)) (t .fs) ≡ D.refused-at m
+          go : (m : ℕ) (o : Option ℕ) → fieldOf k values ≡ oneMore o → put m k o (valueOf k (headerAt m .value)) (t .fs) ≡ D.refused-at m
           go m none w = absurd (z w)
           go m (some old) w = refl
 
-      module _ (z : getD values k 0 ≡ 0) {v : Whole} (w : v ≡ wholeOf (valueOf k (trim (joined (slice (r .colon + 1) (r .to) file))))) where
+      module _ (z : fieldOf k values ≡ 0) {v : Whole} (w : v ≡ wholeOf (valueOf k (trim (joined (slice (r .colon + 1) (r .to) file))))) where
         new-judged : (m : ℕ) → judgedHere m ≡ put m k none (valueOf k (headerAt m .value)) (t .fs)
-        new-judged m = known-judged m ∙ ap (λ (o : Option ℕ). put m k o (valueOf k (headerAt m .value)) (t .fs)) (go (look k (t .fs)) value-held)
+        new-judged m = known-judged m ∙ ap (λ (o : Option ℕ). put m k o (valueOf k (headerAt m .value)) (t .fs)) (go (look k (t .fs)) field-is)
           where
-            go : (o : Option ℕ) → getD values k 0 ≡ held o → o ≡ none
+            go : (o : Option ℕ) → fieldOf k values ≡ oneMore o → o ≡ none
             go none q = refl
             go (some n) q = absurd (let y : ⊥ = omega arith in y)
 
@@ -263,10 +179,9 @@ module _ {file : List ℕ} {from empty at : ℕ} {values : List ℕ} {r : Parts}
             go m (some n) q = let y : _≡_ {A = ℕ} 0 1 = cc in absurd (omega arith)
 
         -- a good one
-        pub judging-number : {n : ℕ} → v ≡ Number n → InRangeOf k v → Judging file from empty (r .next) (set values k (n + 1))
-        judging-number {n} b g =
-            judging-on ((k, n) ∷ t .fs) (set values k (n + 1)) (ap (λ (l : List ℕ). set l k (n + 1)) (t .holds) ∙ found-set (t .fs) k n h)
-            (range-set values k n (t .range) (omega (arith, ap length (t .holds), found-length (t .fs))) (number-range k b g .0) (number-range k b g .1))
+        pub judging-number : {n : ℕ} {vs : Found} → v ≡ Number n → InRangeOf k v → Stored values k (n + 1) vs → Judging file from empty (r .next) vs
+        judging-number {n} {vs} b g a =
+            judging-on ((k, n) ∷ t .fs) vs (found-more n (t .fs) (t .holds) a) (range-more n (t .range) (number-range k b g .0) (number-range k b g .1) a)
             (λ m. new-judged m ∙ go m (valueOf k (headerAt m .value)) (sym b ∙ w))
           where
             go : (m : ℕ) (o : Option ℕ) → Number n ≡ wholeOf o → put m k none o (t .fs) ≡ D.found ((k, n) ∷ t .fs)

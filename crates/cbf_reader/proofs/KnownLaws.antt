@@ -3,14 +3,17 @@ use mathlib.Core.Path.{_≡_, refl}
 use mathlib.Core.Option.{Option, none, some}
 use mathlib.Core.Bool.{Bool, true, false, _&&_, cond}
 use mathlib.Core.List.{List, [], _∷_}
-use Prim.Native.Nat.{ℕ, zero, suc, _+_, _-_, _^_, _<_, _≤_}
+use Prim.Native.Nat.{ℕ, suc, _+_, _^_, _<_, _≤_}
 use native.Mathlib.Omega.{arith}
 use lib.Dec.{leb}
 use lib.ListN.{length}
 use borrow.Author.Tests.{leb-true}
+use Rattle.cbf_format.specs.declared.KnownHeader.{KnownHeader}
+use Rattle.cbf_format.specs.declared.KnownHeader.the-variants.{TransferEncoding, Size, Elements, ContentType, Kind, ByteOrder, Id, Fastest, Second, Third}
 use Rattle.cbf_format.specs.declared.Conversion.{Conversion}
 use Rattle.cbf_format.specs.declared.Conversion.the-variants.{Unseen, Seen, Wrong}
 use Rattle.cbf_format.specs.Text.{bytes, lowers, same}
+use Rattle.cbf_format.specs.Descriptions.{ordinal}
 use Rattle.cbf_format.specs.Values.{number, between, oneOf, unquote, quotedOneOf, parts, withPart, conversions, contentType, typeNames, valueOf}
 use Rattle.cbf_reader.specs.Values.{wholeOf, InRangeOf}
 use Rattle.cbf_reader.specs.declared.value.Whole.{Whole}
@@ -55,37 +58,26 @@ content-type-bounded (some (p ∷ ps)) = conversions-bounded Unseen ps
 
 -- ---- the known headers
 
-bounded-in-range : (known least limit : ℕ) (v : Option ℕ) → (7 ≤ known → 1 ≤ least) → limit ≤ 2 ^ 31 → Bounded least limit v → InRangeOf known (wholeOf v)
+bounded-in-range : (known : KnownHeader) (least limit : ℕ) (v : Option ℕ) → (7 ≤ ordinal known → 1 ≤ least) → limit ≤ 2 ^ 31 → Bounded least limit v
+    → InRangeOf known (wholeOf v)
 bounded-in-range known least limit none l h b = omega arith
 bounded-in-range known least limit (some n) l h b = (omega arith, λ k. let m = l k in omega arith)
 
-in-range : (known : ℕ) (v : List ℕ) → InRangeOf known (wholeOf (valueOf known v))
-in-range zero v = bounded-in-range 0 0 2 (valueOf 0 v) (omega arith) (omega arith) (one-of-bounded 0 (bytes "binary" ∷ bytes "base64" ∷ []) v)
-in-range (suc zero) v = bounded-in-range 1 0 1_073_741_825 (valueOf 1 v) (omega arith) (omega arith) (between-bounded 0 1_073_741_824 (number v))
-in-range (suc (suc zero)) v = bounded-in-range 2 0 67_108_865 (valueOf 2 v) (omega arith) (omega arith) (between-bounded 0 67_108_864 (number v))
-in-range (suc (suc (suc zero))) v = bounded-in-range 3 0 2 (valueOf 3 v) (omega arith) (omega arith) (content-type-bounded (parts false v))
-in-range (suc (suc (suc (suc zero)))) v = bounded-in-range 4 1 7 (valueOf 4 v) (omega arith) (omega arith) (quoted-bounded 1 typeNames (unquote v))
-in-range (suc (suc (suc (suc (suc zero))))) v = bounded-in-range 5 1 2 (valueOf 5 v) (omega arith) (omega arith) (quoted-bounded 1 (bytes "little_endian" ∷ []) (unquote v))
-in-range (suc (suc (suc (suc (suc (suc zero)))))) v = bounded-in-range 6 1 2_147_483_648 (valueOf 6 v) (omega arith) (omega arith) (between-bounded 1 2_147_483_647 (number v))
-in-range (suc (suc (suc (suc (suc (suc (suc k))))))) v =
-    bounded-in-range (suc (suc (suc (suc (suc (suc (suc k))))))) 1 67_108_865 (between 1 67_108_864 (number v)) (omega arith) (omega arith) (between-bounded 1 67_108_864 (number v))
+in-range : (known : KnownHeader) (v : List ℕ) → InRangeOf known (wholeOf (valueOf known v))
+in-range TransferEncoding v = bounded-in-range TransferEncoding 0 2 (valueOf TransferEncoding v) (omega arith) (omega arith) (one-of-bounded 0 (bytes "binary" ∷ bytes "base64" ∷ []) v)
+in-range Size v = bounded-in-range Size 0 1_073_741_825 (valueOf Size v) (omega arith) (omega arith) (between-bounded 0 1_073_741_824 (number v))
+in-range Elements v = bounded-in-range Elements 0 67_108_865 (valueOf Elements v) (omega arith) (omega arith) (between-bounded 0 67_108_864 (number v))
+in-range ContentType v = bounded-in-range ContentType 0 2 (valueOf ContentType v) (omega arith) (omega arith) (content-type-bounded (parts false v))
+in-range Kind v = bounded-in-range Kind 1 7 (valueOf Kind v) (omega arith) (omega arith) (quoted-bounded 1 typeNames (unquote v))
+in-range ByteOrder v = bounded-in-range ByteOrder 1 2 (valueOf ByteOrder v) (omega arith) (omega arith) (quoted-bounded 1 (bytes "little_endian" ∷ []) (unquote v))
+in-range Id v = bounded-in-range Id 1 2_147_483_648 (valueOf Id v) (omega arith) (omega arith) (between-bounded 1 2_147_483_647 (number v))
+in-range Fastest v = bounded-in-range Fastest 1 67_108_865 (valueOf Fastest v) (omega arith) (omega arith) (between-bounded 1 67_108_864 (number v))
+in-range Second v = bounded-in-range Second 1 67_108_865 (valueOf Second v) (omega arith) (omega arith) (between-bounded 1 67_108_864 (number v))
+in-range Third v = bounded-in-range Third 1 67_108_865 (valueOf Third v) (omega arith) (omega arith) (between-bounded 1 67_108_864 (number v))
 
 -- the answer for the header k on the text t, which is v without its blanks
-pub answered : (k : ℕ) {known : ℕ} {t v : List ℕ} {r : Whole} → known ≡ k → t ≡ v → r ≡ wholeOf (valueOf k t) → (r ≡ wholeOf (valueOf known v)) × InRangeOf known r
+pub answered : (k : KnownHeader) {known : KnownHeader} {t v : List ℕ} {r : Whole} → known ≡ k → t ≡ v → r ≡ wholeOf (valueOf k t)
+    → (r ≡ wholeOf (valueOf known v)) × InRangeOf known r
 answered k {known} {t} {v} {r} e q a =
     let s : r ≡ wholeOf (valueOf known v) = rw (e, ← q) a in
     (s, rw s (in-range known v))
-
--- the answer for a dimension, the header 7 or a later one
-pub answered-dimension : {known : ℕ} {t v : List ℕ} {r : Whole} → 7 ≤ known → t ≡ v → r ≡ wholeOf (between 1 67_108_864 (number t))
-    → (r ≡ wholeOf (valueOf known v)) × InRangeOf known r
-answered-dimension {known} h q a = answered (suc (suc (suc (suc (suc (suc (suc (known - 7)))))))) (omega arith) q a
-
--- a number that is none of those below k is k or more
-abbrev pub NoneBelow : ℕ → ℕ → Type 0
-NoneBelow zero n = Unit {0}
-NoneBelow (suc k) n = NoneBelow k n × (n ≡ k → ⊥)
-
-pub at-least : (k n : ℕ) → NoneBelow k n → k ≤ n
-at-least zero n h = omega arith
-at-least (suc k) n h = let l = at-least k n (h .0) in let e = h .1 in omega arith

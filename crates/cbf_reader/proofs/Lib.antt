@@ -10,6 +10,7 @@ pub mod WordLaws
 pub mod PartLaws
 pub mod KnownLaws
 pub mod DescriptionLaws
+pub mod FoundLaws
 pub mod JudgeLaws
 pub mod SectionHeaderLaws
 pub mod ClosingLaws

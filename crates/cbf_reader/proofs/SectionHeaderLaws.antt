@@ -9,6 +9,8 @@ use lib.ListN.{drop}
 use Rattle.cbf_walk.specs.Parsers.{Res, bad, cut, ok}
 use Rattle.cbf_format.specs.Text.{blank}
 use Rattle.cbf_format.specs.Headers.{someName, splitColon, continues, malformed, HeaderLines, headerLines, group}
+use Rattle.cbf_format.specs.declared.KnownHeader.{KnownHeader}
+use Rattle.cbf_format.specs.declared.KnownHeader.the-variants.{TransferEncoding, Size, Elements}
 use Rattle.cbf_format.specs.Descriptions as D
 use Rattle.cbf_pixels.specs.declared.Refusal.{Refusal}
 use Rattle.cbf_reader.specs.Places.{headersAt}
@@ -46,7 +48,7 @@ readAs empty after (As d) = H.As d after
 
 module _ (at e n : ℕ) where
   described-read :
-      (a b c : Option ℕ) (fs : List (ℕ × ℕ))
+      (a b c : Option ℕ) (fs : List (KnownHeader × ℕ))
       → readAs (at + e) (at + n) (describedBy (D.described 0 a b c fs)) ≡ headersReadAt at (D.concludedBy (D.described e a b c fs) n)
   unfolding describedBy
   described-read none b c fs = refl
@@ -70,10 +72,10 @@ module _ (at e n : ℕ) where
 
     judged-found :
         (j : D.Judged) → judgedAt at r j → r .refused ≡ false → (d : Described)
-        → ((fs : List (ℕ × ℕ)) → r .values ≡ foundOf fs → d ≡ describedBy (D.described 0 (D.look 0 fs) (D.look 1 fs) (D.look 2 fs) fs))
+        → ((fs : List (KnownHeader × ℕ)) → r .values ≡ foundOf fs → d ≡ describedBy (D.described 0 (D.look TransferEncoding fs) (D.look Size fs) (D.look Elements fs) fs))
         → readAs (at + e) (at + n) d ≡ headersReadAt at (D.concludedBy (D.verdictOf e j) n)
     judged-found (D.refused-at p) h t d k = let z : true ≡ false = sym (h .0) ∙ t in absurd (let y : _≡_ {A = ℕ} 0 1 = cc in omega arith)
-    judged-found (D.found fs) h t d k = ap (readAs (at + e) (at + n)) (k fs (h .1)) ∙ described-read (D.look 0 fs) (D.look 1 fs) (D.look 2 fs) fs
+    judged-found (D.found fs) h t d k = ap (readAs (at + e) (at + n)) (k fs (h .1)) ∙ described-read (D.look TransferEncoding fs) (D.look Size fs) (D.look Elements fs) fs
 
 -- ---- the headers that start at a place
 
@@ -137,7 +139,7 @@ module _ (file : List ℕ) (at limit most : ℕ) where
 
         pub section-found :
             r .refused ≡ false → (d : Described)
-            → ((fs : List (ℕ × ℕ)) → r .values ≡ foundOf fs → d ≡ describedBy (D.described 0 (D.look 0 fs) (D.look 1 fs) (D.look 2 fs) fs))
+            → ((fs : List (KnownHeader × ℕ)) → r .values ≡ foundOf fs → d ≡ describedBy (D.described 0 (D.look TransferEncoding fs) (D.look Size fs) (D.look Elements fs) fs))
             → readAs empty after d ≡ headersReadAt at (D.headers limit most (drop at file))
         section-found t d k =
             rw (h .start, h .end)

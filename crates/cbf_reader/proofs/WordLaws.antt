@@ -3,34 +3,52 @@ use mathlib.Core.Path.{_≡_, refl, sym, ap, _∙_}
 use mathlib.Core.Option.{none, some}
 use mathlib.Core.Bool.{Bool, true, false, cond}
 use mathlib.Core.List.{List, [], _∷_, _++_}
-use Prim.Native.Nat.{ℕ, suc, _+_, _-_, _<_, _≤_}
+use Prim.Native.Nat.{ℕ, zero, suc, _+_, _-_, _<_, _≤_}
+use native.Mathlib.Nat.{not-suc-le-zero}
 use native.Mathlib.Omega.{arith}
 use lib.Dec.{leb, ltb, eqb}
 use borrow.Author.Tests.{ltb-true, leb-true, eq-eqb, ne-eqb}
 use lib.ListN.{length, getD, drop, drop-of-length-le}
 use lib.Seq.{slice, slice-empty, drop-cons}
+use Rattle.cbf_format.specs.declared.KnownHeader.{KnownHeader}
+use Rattle.cbf_format.specs.declared.KnownHeader.the-variants.{TransferEncoding}
 use Rattle.cbf_format.specs.Text.{lowers, same}
-use Rattle.cbf_format.specs.Values.{oneOf, addQuoted, endQuote, unquote}
+use Rattle.cbf_format.specs.Values.{oneOf, nameOf, named, addQuoted, endQuote, unquote}
 use Rattle.cbf_reader.specs.Values.{joined, joinedFrom, Trimmed}
 use Rattle.cbf_reader.proofs.ValueLaws.{not-end, joined-next, joined-back}
+
+-- the words that name known headers
+abbrev pub names : List KnownHeader → List (List ℕ)
+names [] = []
+names (h ∷ hs) = nameOf h ∷ names hs
 
 -- the text is none of the first n words
 pub record Missed (n : ℕ) (ws : List (List ℕ)) (t : List ℕ) : Type 0 where
   pub rest : (k : ℕ) → oneOf k ws t ≡ oneOf (k + n) (drop n ws) t
+  pub headers : (hs : List KnownHeader) → ws ≡ names hs → named hs t ≡ named (drop n hs) t
 
 pub start : (ws : List (List ℕ)) (t : List ℕ) → Missed 0 ws t
-start ws t = record { rest = λ k. let s : k ≡ k + 0 = omega arith in ap (λ (j : ℕ). oneOf j ws t) s }
+start ws t = record { rest = λ k. let s : k ≡ k + 0 = omega arith in ap (λ (j : ℕ). oneOf j ws t) s; headers = λ hs e. refl }
 
 -- the test of the word n, which tells b
 at-word : (n k : ℕ) (ws : List (List ℕ)) (t : List ℕ) (b : Bool) → n < length ws → b ≡ same (getD ws n []) (lowers t)
     → oneOf k (drop n ws) t ≡ cond b (some k) (oneOf (suc k) (drop (suc n) ws) t)
 at-word n k ws t b h e = rw (drop-cons ws n [] h, e)
 
+at-name : (n : ℕ) (hs : List KnownHeader) (t : List ℕ) (b : Bool) → n < length (names hs) → b ≡ same (getD (names hs) n []) (lowers t)
+    → named (drop n hs) t ≡ cond b (some (getD hs n TransferEncoding)) (named (drop (suc n) hs) t)
+at-name n [] t b h e = absurd (not-suc-le-zero h)
+at-name zero (k ∷ hs) t b h e = rw e
+at-name (suc n) (k ∷ hs) t b h e = at-name n hs t b (omega arith) e
+
 -- it is not the word n; it is; there is no word n
 pub missed : {n : ℕ} {ws : List (List ℕ)} {t : List ℕ} {b : Bool} → Missed n ws t → ltb n (length ws) ≡ true
     → b ≡ same (getD ws n []) (lowers t) → b ≡ false → Missed (suc n) ws t
 missed {n} {ws} {t} {b} m h e f =
-    record { rest = λ k. let s : k + suc n ≡ suc (k + n) = omega arith in m .rest k ∙ at-word n (k + n) ws t b (ltb-true n (length ws) h) e ∙ rw (f, s) }
+    record {
+      rest = λ k. let s : k + suc n ≡ suc (k + n) = omega arith in m .rest k ∙ at-word n (k + n) ws t b (ltb-true n (length ws) h) e ∙ rw (f, s);
+      headers = λ hs q. m .headers hs q ∙ at-name n hs t b (ltb-true n (length (names hs)) (rw q at h)) (rw q at e) ∙ rw f;
+    }
 
 pub found : {n : ℕ} {ws : List (List ℕ)} {t : List ℕ} {b : Bool} → Missed n ws t → ltb n (length ws) ≡ true
     → b ≡ same (getD ws n []) (lowers t) → b ≡ true → (k : ℕ) → some (k + n) ≡ oneOf k ws t
@@ -38,6 +56,14 @@ found {n} {ws} {t} {b} m h e f k = sym (m .rest k ∙ at-word n (k + n) ws t b (
 
 pub absent : {n : ℕ} {ws : List (List ℕ)} {t : List ℕ} → Missed n ws t → leb (length ws) n ≡ true → (k : ℕ) → none ≡ oneOf k ws t
 absent {n} {ws} {t} m h k = let le : length ws ≤ n = leb-true (length ws) n h in sym (m .rest k ∙ rw drop-of-length-le)
+
+-- it is the name of the header n; it is no name
+pub found-header : {n : ℕ} {t : List ℕ} {b : Bool} (hs : List KnownHeader) → Missed n (names hs) t → ltb n (length (names hs)) ≡ true
+    → b ≡ same (getD (names hs) n []) (lowers t) → b ≡ true → some (getD hs n TransferEncoding) ≡ named hs t
+found-header {n} {t} {b} hs m h e f = sym (m .headers hs refl ∙ at-name n hs t b (ltb-true n (length (names hs)) h) e ∙ rw f)
+
+pub absent-header : {n : ℕ} {t : List ℕ} (hs : List KnownHeader) → Missed n (names hs) t → leb (length hs) n ≡ true → none ≡ named hs t
+absent-header {n} {t} hs m h = let le : length hs ≤ n = leb-true (length hs) n h in sym (m .headers hs refl ∙ rw drop-of-length-le)
 
 -- at the places P of a function, each with the start of its call, the text of the call is none of the first n words
 pub record Past (n : ℕ) (ws : List (List ℕ)) {S P : Type 0} (text : S → List ℕ) (start-of : P → S) : Type 0 where

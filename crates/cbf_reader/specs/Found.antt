@@ -1,39 +1,65 @@
--- The values of the known headers as the code holds them: one more than the value, or 0 where there is none.
+-- The values of the known headers as the code keeps them.
 use mathlib.Core.Path.{_≡_}
 use mathlib.Core.Option.{Option, none, some, Option·getD}
 use mathlib.Core.List.{List, [], _∷_}
 use mathlib.Core.Bool.{cond}
 use lib.Dec.{eqb}
 use Prim.Native.Nat.{ℕ, zero, suc, _+_, _≤_, _^_}
-use lib.ListN.{getD}
-use Rattle.cbf_format.specs.Descriptions.{look, Verdict, refuses, describes}
+use Rattle.cbf_format.specs.declared.KnownHeader.{KnownHeader}
+use Rattle.cbf_format.specs.declared.KnownHeader.the-variants.{TransferEncoding, Size, Elements, ContentType, Kind, ByteOrder, Id, Fastest, Second, Third}
+use Rattle.cbf_format.specs.Descriptions.{ordinal, sameHeader, look, Verdict, refuses, describes}
 use Rattle.cbf_format.specs.Descriptions as D
+use Rattle.cbf_reader.specs.declared.found.Found.{Found}
 use Rattle.cbf_reader.specs.declared.describe.Description.{Description}
 use Rattle.cbf_reader.specs.declared.describe.Described.{Described}
 use Rattle.cbf_reader.specs.declared.describe.Described.the-variants.{Missing, Disagree, As}
 
-abbrev pub held : Option ℕ → ℕ
-held none = 0
-held (some n) = n + 1
+-- one more than the value, or 0 where there is none
+abbrev pub oneMore : Option ℕ → ℕ
+oneMore none = 0
+oneMore (some n) = n + 1
 
-unfoldable pub foundOf : List (ℕ × ℕ) → List ℕ
+unfoldable pub foundOf : List (KnownHeader × ℕ) → Found
 foundOf fs =
-    held (look 0 fs)
-    ∷ held (look 1 fs)
-    ∷ held (look 2 fs)
-    ∷ held (look 3 fs)
-    ∷ held (look 4 fs)
-    ∷ held (look 5 fs)
-    ∷ held (look 6 fs)
-    ∷ held (look 7 fs)
-    ∷ held (look 8 fs)
-    ∷ held (look 9 fs)
-    ∷ []
+    record {
+      encoding = oneMore (look TransferEncoding fs);
+      size = oneMore (look Size fs);
+      elements = oneMore (look Elements fs);
+      compression = oneMore (look ContentType fs);
+      kind = oneMore (look Kind fs);
+      order = oneMore (look ByteOrder fs);
+      id = oneMore (look Id fs);
+      fastest = oneMore (look Fastest fs);
+      second = oneMore (look Second fs);
+      third = oneMore (look Third fs);
+    }
+
+-- the field of a known header
+abbrev pub fieldOf : KnownHeader → Found → ℕ
+fieldOf TransferEncoding f = f .encoding
+fieldOf Size f = f .size
+fieldOf Elements f = f .elements
+fieldOf ContentType f = f .compression
+fieldOf Kind f = f .kind
+fieldOf ByteOrder f = f .order
+fieldOf Id f = f .id
+fieldOf Fastest f = f .fastest
+fieldOf Second f = f .second
+fieldOf Third f = f .third
+
+-- r is f with n in the field of a known header, and the other fields as they were
+pub record Stored (f : Found) (known : KnownHeader) (n : ℕ) (r : Found) : Type 0 where
+  pub field : (k : KnownHeader) → fieldOf k r ≡ cond (sameHeader k known) n (fieldOf k f)
 
 -- each value is below 2^31, and each dimension is at least 1
-pub record InRange (values : List ℕ) : Type 0 where
-  pub most : (j : ℕ) → getD values j 0 ≤ 2 ^ 31
-  pub least : (j : ℕ) → 7 ≤ j → getD values j 0 ≡ 1 → ⊥
+pub record InRange (values : Found) : Type 0 where
+  pub most : (k : KnownHeader) → fieldOf k values ≤ 2 ^ 31
+  pub least : (k : KnownHeader) → 7 ≤ ordinal k → fieldOf k values ≡ 1 → ⊥
+
+-- the value that is kept as one more, or another where there is none
+abbrev pub givenOr : ℕ → ℕ → ℕ
+givenOr absent zero = absent
+givenOr absent (suc n) = n
 
 -- a number of which 0 stands for none
 abbrev pub optional : ℕ → Option ℕ

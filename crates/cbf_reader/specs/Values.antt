@@ -10,6 +10,10 @@ use lib.ListN.{length, getD}
 use lib.Seq.{slice}
 use Rattle.cbf_format.specs.Text.{blank}
 use Rattle.cbf_format.specs.Values.{parts, contentType}
+use Rattle.cbf_format.specs.declared.KnownHeader.{KnownHeader}
+use Rattle.cbf_format.specs.Descriptions.{ordinal}
+use Rattle.cbf_reader.specs.declared.header.Name.{Name}
+use Rattle.cbf_reader.specs.declared.header.Name.the-variants.{Known, Other}
 use Rattle.cbf_reader.specs.declared.value.Character.{Character}
 use Rattle.cbf_reader.specs.declared.value.Character.the-variants.{End, Byte}
 use Rattle.cbf_reader.specs.declared.header.Inner.{Inner}
@@ -59,10 +63,9 @@ abbrev pub wholeOf : Option ℕ → Whole
 wholeOf none = Bad
 wholeOf (some n) = Number n
 
--- a known header's number, 10 for none
-abbrev pub knownOf : Option ℕ → ℕ
-knownOf none = 10
-knownOf (some k) = k
+abbrev pub knownOf : Option KnownHeader → Name
+knownOf none = Other
+knownOf (some k) = Known k
 
 -- a blank or a byte of a line end
 abbrev pub blankOrEnd : ℕ → Bool
@@ -91,9 +94,9 @@ PartAt file at to P.Unclosed = parts false (joined (slice at to file)) ≡ none
 PartAt file at to (P.At p) = (parts false (joined (slice at to file)) ≡ partThen (joined (slice at p file)) (cond (eqb p to) (some []) (parts false (joined (slice (p + 1) to file))))) × (at ≤ p) × (p ≤ to)
 
 -- a value of a known header is below 2^31, and a dimension at least 1
-abbrev pub InRangeOf : ℕ → Whole → Type 0
+abbrev pub InRangeOf : KnownHeader → Whole → Type 0
 InRangeOf known Bad = 0 ≤ 0
-InRangeOf known (Number n) = (n < 2 ^ 31) × (7 ≤ known → 1 ≤ n)
+InRangeOf known (Number n) = (n < 2 ^ 31) × (7 ≤ ordinal known → 1 ≤ n)
 
 -- what the parts after the `;` at a place say, or no part
 unfoldable pub laterParts : List ℕ → ℕ → ℕ → Option ℕ

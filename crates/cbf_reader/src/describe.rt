@@ -1,14 +1,17 @@
 // What a section's headers say of it, from the values that were found: refusal 6 for a header that is missing, and 7.
+use crate::found::Found;
 use cbf_format::Encoding;
+use cbf_format::KnownHeader;
 use cbf_pixels::Compression;
 use cbf_pixels::ElementType;
 ghost use mathlib.Core.Path.{_≡_};
 ghost use mathlib.Core.List.{List};
 ghost use mathlib.Core.Option.{some};
-ghost use Prim.Native.Nat.{ℕ, _-_, _≤_, _^_};
+ghost use Prim.Native.Nat.{ℕ, _≤_, _^_};
 ghost use Rattle.cbf_pixels.specs.Uncompressed.{octetsPer};
 ghost use Rattle.cbf_format.specs.Descriptions.{look, sizeAgrees, dimensionsAgree, described, encodingOf, compressionOf, typeOf};
-ghost use Rattle.cbf_reader.specs.Found.{foundOf, optional, describedBy, InRange};
+ghost use Rattle.cbf_format.specs.declared.KnownHeader.the-variants.{TransferEncoding, Size, Elements};
+ghost use Rattle.cbf_reader.specs.Found.{foundOf, givenOr, optional, describedBy, InRange};
 
 // What a section's headers say. An ID or a dimension that is absent is 0.
 pub struct Description {
@@ -121,30 +124,26 @@ fn element_type(number: u64) -> ElementType
     }
 }
 
-// One less, where there is one.
-fn given(held: u64) -> u64
-    ensures { λ r. ⌜ r ≡ held - 1 ⌝ }
+// The value that is kept as one more, or another where there is none.
+fn given(kept: u64, absent: u64) -> u64
+    ensures { λ r. ⌜ r ≡ givenOr absent kept ⌝ }
 {
-    if held == 0 {
-        return 0;
+    if kept == 0 {
+        return absent;
     }
-    held - 1
+    kept - 1
 }
 
 // What the values say, with the encoding, the size and the elements among them.
-fn description_of(values: [u64; 10], encoding: u64, size: u64, elements: u64) -> Described
+fn description_of(values: Found, encoding: u64, size: u64, elements: u64) -> Described
     requires { ⌜ InRange values × (size ≤ 2 ^ 31) × (elements ≤ 2 ^ 31) ⌝ }
-    ensures { λ r. ⌜ ((fs : List (ℕ × ℕ)) → values ≡ foundOf fs → r ≡ describedBy (described 0 (some encoding) (some size) (some elements) fs)) ⌝ }
+    ensures { λ r. ⌜ ((fs : List (KnownHeader × ℕ)) → values ≡ foundOf fs → r ≡ describedBy (described 0 (some encoding) (some size) (some elements) fs)) ⌝ }
 {
-    let mut kind_number = 5;
-    if values[4] != 0 {
-        kind_number = values[4] - 1;
-    }
-    let by = compression(given(values[3]));
-    let kind = element_type(kind_number);
-    let fastest = given(values[7]);
-    let second = given(values[8]);
-    let third = given(values[9]);
+    let by = compression(given(values.compression, 0));
+    let kind = element_type(given(values.kind, 5));
+    let fastest = given(values.fastest, 0);
+    let second = given(values.second, 0);
+    let third = given(values.third, 0);
     if !size_agrees(by, kind, size, elements) {
         return Described::Disagree;
     }
@@ -158,27 +157,27 @@ fn description_of(values: [u64; 10], encoding: u64, size: u64, elements: u64) ->
         elements: elements,
         compression: by,
         kind: kind,
-        id: given(values[6]),
+        id: given(values.id, 0),
         fastest: fastest,
         second: second,
         third: third,
     })
 }
 
-// What the values say. Each is one more than the value of its header, or 0 where there is none.
-pub fn describe(values: [u64; 10]) -> Described
+// What the values say.
+pub fn describe(values: Found) -> Described
     requires { ⌜ InRange values ⌝ }
-    ensures { λ r. ⌜ ((fs : List (ℕ × ℕ)) → values ≡ foundOf fs → r ≡ describedBy (described 0 (look 0 fs) (look 1 fs) (look 2 fs) fs)) ⌝ }
+    ensures { λ r. ⌜ ((fs : List (KnownHeader × ℕ)) → values ≡ foundOf fs → r ≡ describedBy (described 0 (look TransferEncoding fs) (look Size fs) (look Elements fs) fs)) ⌝ }
 {
-    let needed_encoding = values[0];
+    let needed_encoding = values.encoding;
     if needed_encoding == 0 {
         return Described::Missing;
     }
-    let needed_size = values[1];
+    let needed_size = values.size;
     if needed_size == 0 {
         return Described::Missing;
     }
-    let needed_elements = values[2];
+    let needed_elements = values.elements;
     if needed_elements == 0 {
         return Described::Missing;
     }

@@ -2,52 +2,59 @@
 use crate::text;
 use crate::value;
 use crate::value::Whole;
+use cbf_format::KnownHeader;
 ghost use mathlib.Core.Path.{_≡_};
 ghost use mathlib.Core.List.{[], _∷_};
 ghost use Prim.Native.Nat.{_≤_, _<_};
 ghost use lib.ListN.{length};
 ghost use lib.Seq.{slice};
 ghost use Rattle.cbf_format.specs.Text.{bytes, trim};
-ghost use Rattle.cbf_format.specs.Values.{oneOf, quotedOneOf, unquote, knownNames, typeNames, contentType, parts, valueOf};
+ghost use Rattle.cbf_format.specs.Values.{oneOf, quotedOneOf, unquote, knownHeaders, named, typeNames, contentType, parts, valueOf};
 ghost use mathlib.Core.Bool.{false};
 ghost use Rattle.cbf_reader.specs.Values.{joined, wholeOf, knownOf, Trimmed, unquotedAt};
 
-// Which known header the name is, counted from 0; 10 for none.
-pub fn known(file: &[u8], from: usize, to: usize) -> usize
+// The name of a header: of a known one, or of another.
+pub enum Name {
+    Known(KnownHeader),
+    Other,
+}
+
+// Which known header the name is.
+pub fn known(file: &[u8], from: usize, to: usize) -> Name
     requires { ⌜ (from ≤ to) × (to ≤ length (now file)) ⌝ }
-    ensures { λ r. ⌜ r ≡ knownOf (oneOf 0 knownNames (slice from to (now (file .entry)))) ⌝ }
+    ensures { λ r. ⌜ r ≡ knownOf (named knownHeaders (slice from to (now (file .entry)))) ⌝ }
 {
     if text::is_word_in_any_case(file, from, to, b"content-transfer-encoding") {
-        return 0;
+        return Name::Known(KnownHeader::TransferEncoding);
     }
     if text::is_word_in_any_case(file, from, to, b"x-binary-size") {
-        return 1;
+        return Name::Known(KnownHeader::Size);
     }
     if text::is_word_in_any_case(file, from, to, b"x-binary-number-of-elements") {
-        return 2;
+        return Name::Known(KnownHeader::Elements);
     }
     if text::is_word_in_any_case(file, from, to, b"content-type") {
-        return 3;
+        return Name::Known(KnownHeader::ContentType);
     }
     if text::is_word_in_any_case(file, from, to, b"x-binary-element-type") {
-        return 4;
+        return Name::Known(KnownHeader::Kind);
     }
     if text::is_word_in_any_case(file, from, to, b"x-binary-element-byte-order") {
-        return 5;
+        return Name::Known(KnownHeader::ByteOrder);
     }
     if text::is_word_in_any_case(file, from, to, b"x-binary-id") {
-        return 6;
+        return Name::Known(KnownHeader::Id);
     }
     if text::is_word_in_any_case(file, from, to, b"x-binary-size-fastest-dimension") {
-        return 7;
+        return Name::Known(KnownHeader::Fastest);
     }
     if text::is_word_in_any_case(file, from, to, b"x-binary-size-second-dimension") {
-        return 8;
+        return Name::Known(KnownHeader::Second);
     }
     if text::is_word_in_any_case(file, from, to, b"x-binary-size-third-dimension") {
-        return 9;
+        return Name::Known(KnownHeader::Third);
     }
-    10
+    Name::Other
 }
 
 // What stands in a pair of quotes, or all of it where there are none.

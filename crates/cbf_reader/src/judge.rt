@@ -1,5 +1,8 @@
 // The values of the known headers, over the headers in file order.
+use crate::found;
+use crate::found::Found;
 use crate::header;
+use crate::header::Name;
 use crate::header_parts;
 use crate::known_value;
 use crate::value::Whole;
@@ -9,34 +12,33 @@ ghost use Rattle.cbf_format.specs.Descriptions.{judge as judgeOf};
 ghost use Rattle.cbf_reader.specs.Found.{InRange};
 ghost use Rattle.cbf_reader.specs.HeaderPlaces.{HeadersHere, judgedAt};
 
-// Whether a header is refused, since it is repeated or has a bad value, and its place; else the values, each one more than it is, or 0
-// where there is none.
+// Whether a header is refused, since it is repeated or has a bad value, and its place; else the values.
 pub struct Judged {
     pub refused: bool,
     pub place: usize,
-    pub values: [u64; 10],
+    pub values: Found,
 }
 
 pub fn judge_headers(file: &[u8], from: usize, empty: usize) -> Judged
     requires { ⌜ HeadersHere (now file) from empty ⌝ }
     ensures { λ r. ⌜ ((h : HeadersHere (now (file .entry)) from empty) → judgedAt (h .at) r (judgeOf (group (h .lines) .headers) [])) × InRange (r .values) ⌝ }
 {
-    let mut values: [u64; 10] = [0; 10];
+    let mut values = found::nothing();
     let mut at = from;
     while at < empty {
         let parts = header_parts::header_parts(file, at, empty);
         let colon = parts.colon;
         let to = parts.to;
-        let k = header::known(file, at, colon);
-        if k < 10 {
-            if values[k] != 0 {
+        let name = header::known(file, at, colon);
+        if let Name::Known(known) = name {
+            if found::field(values, known) != 0 {
                 return Judged {
                     refused: true,
                     place: at,
                     values: values,
                 };
             }
-            let v = known_value::known_value(file, k, colon + 1, to);
+            let v = known_value::known_value(file, known, colon + 1, to);
             match v {
                 Whole::Bad => {
                     return Judged {
@@ -46,7 +48,7 @@ pub fn judge_headers(file: &[u8], from: usize, empty: usize) -> Judged
                     };
                 }
                 Whole::Number(n) => {
-                    values[k] = n + 1;
+                    values = found::with_field(values, known, n + 1);
                 }
             }
         }

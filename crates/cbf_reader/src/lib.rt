@@ -6,6 +6,7 @@ mod closing;
 mod content_type;
 mod data;
 mod describe;
+mod found;
 mod header;
 mod header_parts;
 mod headers;

@@ -12,7 +12,8 @@ use Rattle.cbf_format.specs.Text.{bytes}
 use Rattle.cbf_format.specs.Descriptions as D
 use Rattle.cbf_format.specs.Sections.{opening, marker}
 use Rattle.cbf_format.specs.Listing.{printed}
-use Rattle.cbf_format.specs.House.{ended, endedLines, numberLine, houseLines, typeWords}
+use Rattle.cbf_format.specs.Values.{typeWords}
+use Rattle.cbf_format.specs.House.{ended, endedLines, numberLine, houseLines}
 use Rattle.cbf_reader.specs.Found.{optional}
 use Rattle.cbf_write.proofs.Puts.{Put, put-both}
 use Rattle.cbf_replace.specs.HeadTexts.{headText, lineText}

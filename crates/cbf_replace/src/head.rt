@@ -6,7 +6,7 @@ ghost use mathlib.Core.Option.{some};
 ghost use Prim.Native.Nat.{_+_, _≤_};
 ghost use lib.ListN.{length};
 ghost use lib.Seq.{sets};
-ghost use Rattle.cbf_format.specs.House.{typeWords};
+ghost use Rattle.cbf_format.specs.Values.{typeWords};
 ghost use Rattle.cbf_reader.specs.Found.{optional};
 ghost use Rattle.cbf_replace.specs.HeadTexts.{described, headText, lineText};
 

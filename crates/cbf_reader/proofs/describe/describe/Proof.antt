@@ -1,6 +1,7 @@
 -- `describe::describe` meets its contract. Assumes nothing.
 use borrow.Author.Needs.{needs}
 use native.Mathlib.Omega.{arith}
+use Rattle.cbf_format.specs.declared.KnownHeader.the-variants.{TransferEncoding, Size, Elements}
 use Rattle.cbf_format.specs.Descriptions.{look}
 use Rattle.cbf_reader.specs.Found.{foundOf, describedBy}
 use Rattle.cbf_reader.proofs.DescriptionLaws.{absent, there, found-at}
@@ -9,26 +10,26 @@ use Rattle.cbf_reader.proofs.describe.describe.Tie as tie
 
 returns : tie.Need-returns
 unfolding foundOf describedBy
-returns c fs e = rw (absent (look 0 fs) (found-at fs 0 e) (c .if1 .taken))
+returns c fs e = rw (absent (look TransferEncoding fs) (found-at fs TransferEncoding e) (c .if1 .taken))
 
 returns-2 : tie.Need-returns-2
 unfolding foundOf describedBy
-returns-2 c fs e = rw (there (look 0 fs) (found-at fs 0 e) (c .before .if1 .left), absent (look 1 fs) (found-at fs 1 e) (c .if2 .taken))
+returns-2 c fs e = rw (there (look TransferEncoding fs) (found-at fs TransferEncoding e) (c .before .if1 .left), absent (look Size fs) (found-at fs Size e) (c .if2 .taken))
 
 returns-3 : tie.Need-returns-3
 unfolding foundOf describedBy
-returns-3 c fs e = rw (there (look 0 fs) (found-at fs 0 e) (c .before .before .if1 .left), there (look 1 fs) (found-at fs 1 e) (c .before .if2 .left), absent (look 2 fs) (found-at fs 2 e) (c .if3 .taken))
+returns-3 c fs e = rw (there (look TransferEncoding fs) (found-at fs TransferEncoding e) (c .before .before .if1 .left), there (look Size fs) (found-at fs Size e) (c .before .if2 .left), absent (look Elements fs) (found-at fs Elements e) (c .if3 .taken))
 
 description-of-requires : tie.Need-description-of-requires
-description-of-requires c κs = (c .before .before .before .pre, omega (arith, c .before .before .before .pre .most 1), omega (arith, c .before .before .before .pre .most 2))
+description-of-requires c κs = (c .before .before .before .pre, omega (arith, c .before .before .before .pre .most Size), omega (arith, c .before .before .before .pre .most Elements))
 
 returns-4 : tie.Need-returns-4
 unfolding foundOf
-returns-4 c fs e = rw (there (look 0 fs) (found-at fs 0 e) (c .before .before .before .if1 .left), there (look 1 fs) (found-at fs 1 e) (c .before .before .if2 .left), there (look 2 fs) (found-at fs 2 e) (c .before .if3 .left)) (c .description-of .ensures fs e)
+returns-4 c fs e = rw (there (look TransferEncoding fs) (found-at fs TransferEncoding e) (c .before .before .before .if1 .left), there (look Size fs) (found-at fs Size e) (c .before .before .if2 .left), there (look Elements fs) (found-at fs Elements e) (c .before .if3 .left)) (c .description-of .ensures fs e)
 
 pub describe-spec : {M : Type 1} → statement M
 describe-spec =
     tie.close
     (tie.spec
-    (λ c. search needs) returns (λ c. search needs) returns-2 (λ c. search needs) returns-3
-    (λ c. search needs) (λ c. search needs) (λ c. search needs) description-of-requires returns-4)
+    returns returns-2 returns-3 (λ c. search needs) (λ c. search needs) (λ c. search needs)
+    description-of-requires returns-4)

@@ -4,9 +4,9 @@ use Prim.Native.Nat.{ℕ}
 use lib.Seq.{slice}
 use denote.Ref.{now}
 use borrow.Author.Needs.{needs}
-use Rattle.cbf_format.specs.Values.{knownNames}
+use Rattle.cbf_format.specs.Values.{knownHeaders}
 use Rattle.cbf_reader.specs.Values.{knownOf}
-use Rattle.cbf_reader.proofs.WordLaws.{call, first, next, found, absent}
+use Rattle.cbf_reader.proofs.WordLaws.{names, call, first, next, found-header, absent-header}
 use Rattle.cbf_reader.proofs.header.known.Statement.{statement}
 use Rattle.cbf_reader.proofs.header.known.Tie as tie
 
@@ -16,7 +16,7 @@ text s = slice (s .args .from) (s .args .to) (now (s .args .file))
 
 pub known-spec : {M : Type 1} → statement M
 known-spec =
-    let p0 = first knownNames text in
+    let p0 = first (names knownHeaders) text in
     let p1 = next p0 refl (λ (c : tie.Else1). c .before .before .before .before) (λ c. c .before .is-word-in-any-case .ensures) (λ c. c .if1 .left) in
     let p2 = next p1 refl (λ (c : tie.Else2). c .before .before .before) (λ c. c .before .is-word-in-any-case2 .ensures) (λ c. c .if2 .left) in
     let p3 = next p2 refl (λ (c : tie.Else3). c .before .before .before) (λ c. c .before .is-word-in-any-case3 .ensures) (λ c. c .if3 .left) in
@@ -29,14 +29,14 @@ known-spec =
     let p10 = next p9 refl (λ (c : tie.Else10). c .before .before .before) (λ c. c .before .is-word-in-any-case10 .ensures) (λ c. c .if10 .left) in
     tie.close
     (tie.spec
-    (λ c. search needs) (λ c κs. search needs) (λ c. ap knownOf (found (p0 .missing (c .before .before .before .before)) refl (c .before .is-word-in-any-case .ensures) (c .if1 .taken) 0))
-    (λ c. search needs) (λ c κs. call p1 (c .before) .pre) (λ c. ap knownOf (found (p1 .missing (c .before .before .before)) refl (c .before .is-word-in-any-case2 .ensures) (c .if2 .taken) 0))
-    (λ c. search needs) (λ c κs. call p2 (c .before) .pre) (λ c. ap knownOf (found (p2 .missing (c .before .before .before)) refl (c .before .is-word-in-any-case3 .ensures) (c .if3 .taken) 0))
-    (λ c. search needs) (λ c κs. call p3 (c .before) .pre) (λ c. ap knownOf (found (p3 .missing (c .before .before .before)) refl (c .before .is-word-in-any-case4 .ensures) (c .if4 .taken) 0))
-    (λ c. search needs) (λ c κs. call p4 (c .before) .pre) (λ c. ap knownOf (found (p4 .missing (c .before .before .before)) refl (c .before .is-word-in-any-case5 .ensures) (c .if5 .taken) 0))
-    (λ c. search needs) (λ c κs. call p5 (c .before) .pre) (λ c. ap knownOf (found (p5 .missing (c .before .before .before)) refl (c .before .is-word-in-any-case6 .ensures) (c .if6 .taken) 0))
-    (λ c. search needs) (λ c κs. call p6 (c .before) .pre) (λ c. ap knownOf (found (p6 .missing (c .before .before .before)) refl (c .before .is-word-in-any-case7 .ensures) (c .if7 .taken) 0))
-    (λ c. search needs) (λ c κs. call p7 (c .before) .pre) (λ c. ap knownOf (found (p7 .missing (c .before .before .before)) refl (c .before .is-word-in-any-case8 .ensures) (c .if8 .taken) 0))
-    (λ c. search needs) (λ c κs. call p8 (c .before) .pre) (λ c. ap knownOf (found (p8 .missing (c .before .before .before)) refl (c .before .is-word-in-any-case9 .ensures) (c .if9 .taken) 0))
-    (λ c. search needs) (λ c κs. call p9 (c .before) .pre) (λ c. ap knownOf (found (p9 .missing (c .before .before .before)) refl (c .before .is-word-in-any-case10 .ensures) (c .if10 .taken) 0))
-    (λ c. ap knownOf (absent (p10 .missing c) refl 0)))
+    (λ c. search needs) (λ c κs. search needs) (λ c. ap knownOf (found-header knownHeaders (p0 .missing (c .before .before .before .before)) refl (c .before .is-word-in-any-case .ensures) (c .if1 .taken)))
+    (λ c. search needs) (λ c κs. call p1 (c .before) .pre) (λ c. ap knownOf (found-header knownHeaders (p1 .missing (c .before .before .before)) refl (c .before .is-word-in-any-case2 .ensures) (c .if2 .taken)))
+    (λ c. search needs) (λ c κs. call p2 (c .before) .pre) (λ c. ap knownOf (found-header knownHeaders (p2 .missing (c .before .before .before)) refl (c .before .is-word-in-any-case3 .ensures) (c .if3 .taken)))
+    (λ c. search needs) (λ c κs. call p3 (c .before) .pre) (λ c. ap knownOf (found-header knownHeaders (p3 .missing (c .before .before .before)) refl (c .before .is-word-in-any-case4 .ensures) (c .if4 .taken)))
+    (λ c. search needs) (λ c κs. call p4 (c .before) .pre) (λ c. ap knownOf (found-header knownHeaders (p4 .missing (c .before .before .before)) refl (c .before .is-word-in-any-case5 .ensures) (c .if5 .taken)))
+    (λ c. search needs) (λ c κs. call p5 (c .before) .pre) (λ c. ap knownOf (found-header knownHeaders (p5 .missing (c .before .before .before)) refl (c .before .is-word-in-any-case6 .ensures) (c .if6 .taken)))
+    (λ c. search needs) (λ c κs. call p6 (c .before) .pre) (λ c. ap knownOf (found-header knownHeaders (p6 .missing (c .before .before .before)) refl (c .before .is-word-in-any-case7 .ensures) (c .if7 .taken)))
+    (λ c. search needs) (λ c κs. call p7 (c .before) .pre) (λ c. ap knownOf (found-header knownHeaders (p7 .missing (c .before .before .before)) refl (c .before .is-word-in-any-case8 .ensures) (c .if8 .taken)))
+    (λ c. search needs) (λ c κs. call p8 (c .before) .pre) (λ c. ap knownOf (found-header knownHeaders (p8 .missing (c .before .before .before)) refl (c .before .is-word-in-any-case9 .ensures) (c .if9 .taken)))
+    (λ c. search needs) (λ c κs. call p9 (c .before) .pre) (λ c. ap knownOf (found-header knownHeaders (p9 .missing (c .before .before .before)) refl (c .before .is-word-in-any-case10 .ensures) (c .if10 .taken)))
+    (λ c. ap knownOf (absent-header knownHeaders (p10 .missing c) refl)))

@@ -1,13 +1,13 @@
--- `cbf_reader::judge::judge_headers` meets its contract. The loop's invariant: the values are those of the headers before at, and judging the
+-- `judge::judge_headers` meets its contract. The loop's invariant: the values are those of the headers before at, and judging the
 -- headers from at on with these gives what judging all of them does. Assumes nothing.
 use Prim.Native.Nat.{_-_, _<_}
 use native.Mathlib.Omega.{arith}
+use mathlib.Core.Path.{sym, _∙_}
 use lib.ListN.{length}
 use denote.Ref.{now}
 use borrow.Author.Needs.{needs}
-use Rattle.cbf_reader.specs.Found.{foundOf}
 use Rattle.cbf_reader.specs.HeaderPlaces.{HeadersHere, HeaderParts}
-use Rattle.cbf_reader.proofs.JudgeLaws.{Judging, headers-inside, number-range, judging-none, judging-all, judging-unknown, judging-repeated, judging-bad, judging-number}
+use Rattle.cbf_reader.proofs.JudgeLaws.{Judging, headers-inside, number-range, judging-none, judging-all, judging-other, judging-repeated, judging-bad, judging-number}
 use Rattle.cbf_reader.proofs.judge.judge_headers.Statement.{statement}
 use Rattle.cbf_reader.proofs.judge.judge_headers.Tie as tie
 
@@ -18,19 +18,19 @@ abbrev μ-loop : tie.MeasureT-loop
 μ-loop file from empty values₀ at₀ values at = empty - at
 
 -- the headers that are left
-headers-at : (c : tie.In-loop Inv-loop μ-loop) → HeadersHere (now (c .before .before .before .args .file)) (c .before .loop .at) (c .before .before .before .args .empty)
-headers-at c = c .before .loop .inv .left (c .before .before .before .pre) .on
+headers-at : (c : tie.In-loop Inv-loop μ-loop) → HeadersHere (now (c .before .before .before .before .args .file)) (c .before .loop .at) (c .before .before .before .before .args .empty)
+headers-at c = c .before .loop .inv .left (c .before .before .before .before .pre) .on
 
 -- the parts of the first of them
-parts-at : (c : tie.After-header-parts Inv-loop μ-loop) → HeaderParts (now (c .before .before .before .before .args .file)) (c .before .before .loop .at) (c .before .before .before .before .args .empty) (headers-at (c .before)) (c .header-parts .result)
+parts-at : (c : tie.After-header-parts Inv-loop μ-loop)
+    → HeaderParts (now (c .before .before .before .before .before .args .file)) (c .before .before .loop .at) (c .before .before .before .before .before .args .empty) (headers-at (c .before)) (c .header-parts .result)
 parts-at c = c .header-parts .ensures (headers-at (c .before))
 
-inside : (c : tie.In-loop Inv-loop μ-loop) → c .before .before .before .args .empty < length (now (c .before .before .before .args .file))
+inside : (c : tie.In-loop Inv-loop μ-loop) → c .before .before .before .before .args .empty < length (now (c .before .before .before .before .args .file))
 inside c = headers-inside (headers-at c)
 
 loop-holds : tie.Need-loop-holds Inv-loop μ-loop
-unfolding foundOf
-loop-holds c = judging-none (now (c .before .args .file)) (c .before .args .from) (c .before .args .empty)
+loop-holds c = judging-none (now (c .before .before .args .file)) (c .before .before .args .from) (c .before .before .args .empty) (c .nothing .ensures)
 
 header-parts-requires : tie.Need-header-parts-requires Inv-loop μ-loop
 header-parts-requires c κs = (headers-at c, c .loop-test .taken)
@@ -39,39 +39,46 @@ known-requires : tie.Need-known-requires Inv-loop μ-loop
 known-requires c κs = (parts-at c .name-in, omega (arith, parts-at c .value-in, parts-at c .to-in, parts-at c .next-in, inside (c .before)))
 
 returns : tie.Need-returns Inv-loop μ-loop
-returns c = (judging-repeated (c .before .before .before .before .before .loop .inv) (c .before .before .before .header-parts .ensures) (c .before .before .known .ensures) (c .before .if1 .taken) (c .if2 .taken), c .before .before .before .before .before .loop .inv .range)
+returns c = (judging-repeated (c .before .before .before .before .before .before .before .before .loop .inv) (c .before .before .before .before .before .before .header-parts .ensures) (c .before .before .before .before .before .known .ensures) (c .before .before .before .name .given .1) (λ z. c .if1 .taken (c .before .field .ensures ∙ z)), c .before .before .before .before .before .before .before .before .loop .inv .range)
 
 add-known-value : tie.Need-add-known-value Inv-loop μ-loop
-add-known-value c = omega (arith, parts-at (c .before .before .before) .value-in, parts-at (c .before .before .before) .to-in, parts-at (c .before .before .before) .next-in, inside (c .before .before .before .before))
+add-known-value c = let p = parts-at (c .before .before .before .before .before .before) in omega (arith, p .value-in, p .to-in, p .next-in, inside (c .before .before .before .before .before .before .before))
 
 known-value-requires : tie.Need-known-value-requires Inv-loop μ-loop
-known-value-requires c κs = let p = parts-at (c .before .before .before) in (p .value-in, omega (arith, p .to-in, p .next-in, inside (c .before .before .before .before)), c .before .if1 .taken)
+known-value-requires c κs = let p = parts-at (c .before .before .before .before .before .before) in (p .value-in, omega (arith, p .to-in, p .next-in, inside (c .before .before .before .before .before .before .before)))
 
 returns-2 : tie.Need-returns-2 Inv-loop μ-loop
-returns-2 c = (judging-bad (c .before .before .before .before .before .before .before .before .loop .inv) (c .before .before .before .before .before .before .header-parts .ensures) (c .before .before .before .before .before .known .ensures) (c .before .before .before .before .if1 .taken) (c .before .before .before .if2 .left) (c .before .before .known-value .ensures .0) (c .enum-told .given .1), c .before .before .before .before .before .before .before .before .loop .inv .range)
+returns-2 c = (
+  judging-bad (c .before .before .before .before .before .before .before .before .before .before .before .loop .inv) (c .before .before .before .before .before .before .before .before .before .header-parts .ensures) (c .before .before .before .before .before .before .before .before .known .ensures) (c .before .before .before .before .before .before .name .given .1) (sym (c .before .before .before .before .field .ensures) ∙ c .before .before .before .if1 .left) (c .before .before .known-value .ensures .0) (c .enum-told .given .1),
+  c .before .before .before .before .before .before .before .before .before .before .before .loop .inv .range,
+)
 
-add-values : tie.Need-add-values Inv-loop μ-loop
-add-values c = omega (arith, number-range (c .before .before .before .before .before .before .known .result) (c .before .v .given .1) (c .before .before .before .known-value .ensures .1) .0)
+add-with-field : tie.Need-add-with-field Inv-loop μ-loop
+add-with-field c = omega (arith, number-range (c .before .before .before .before .before .before .before .name .given .0 .0) (c .before .v .given .1) (c .before .before .before .known-value .ensures .1) .0)
 
 loop-less : tie.Need-loop-less Inv-loop μ-loop
-loop-less c = let p = parts-at (c .before .before .before .before .before .before .before) in omega (arith, p .name-in, p .value-in, p .to-in, c .before .before .before .before .before .before .before .before .loop-test .taken)
+loop-less c = let p = parts-at (c .before .before .before .before .before .before .before .before .before .before .before) in omega (arith, p .name-in, p .value-in, p .to-in, c .before .before .before .before .before .before .before .before .before .before .before .before .loop-test .taken)
 
 loop-again : tie.Need-loop-again Inv-loop μ-loop
-loop-again c = judging-number (c .before .before .before .before .before .before .before .before .before .loop .inv) (c .before .before .before .before .before .before .before .header-parts .ensures) (c .before .before .before .before .before .before .known .ensures) (c .before .before .before .before .before .if1 .taken) (c .before .before .before .before .if2 .left) (c .before .before .before .known-value .ensures .0) (c .before .v .given .1) (c .before .before .before .known-value .ensures .1)
+loop-again c =
+    judging-number (c .before .before .before .before .before .before .before .before .before .before .before .before .before .loop .inv) (c .before .before .before .before .before .before .before .before .before .before .before .header-parts .ensures) (c .before .before .before .before .before .before .before .before .before .before .known .ensures) (c .before .before .before .before .before .before .before .before .name .given .1)
+    (sym (c .before .before .before .before .before .before .field .ensures) ∙ c .before .before .before .before .before .if1 .left) (c .before .before .before .before .known-value .ensures .0) (c .before .before .v .given .1)
+    (c .before .before .before .before .known-value .ensures .1) (c .with-field .ensures)
 
 loop-less-2 : tie.Need-loop-less-2 Inv-loop μ-loop
-loop-less-2 c = let p = parts-at (c .before .before) in omega (arith, p .name-in, p .value-in, p .to-in, c .before .before .before .loop-test .taken)
+loop-less-2 c = let p = parts-at (c .before .before .before) in omega (arith, p .name-in, p .value-in, p .to-in, c .before .before .before .before .loop-test .taken)
 
 loop-again-2 : tie.Need-loop-again-2 Inv-loop μ-loop
-loop-again-2 c = judging-unknown (c .before .before .before .before .loop .inv) (c .before .before .header-parts .ensures) (c .before .known .ensures) (c .if1 .left)
+loop-again-2 c = judging-other (c .before .before .before .before .before .loop .inv) (c .before .before .before .header-parts .ensures) (c .before .before .known .ensures) (c .enum-told2 .given .1)
 
 returns-3 : tie.Need-returns-3 Inv-loop μ-loop
-returns-3 c = (judging-all (c .before .before .before .args .empty) (c .before .loop .inv) (c .loop-test .left), c .before .loop .inv .range)
+returns-3 c = (judging-all (c .before .before .before .before .args .empty) (c .before .loop .inv) (c .loop-test .left), c .before .loop .inv .range)
 
 pub judge-headers-spec : {M : Type 1} → statement M
 judge-headers-spec =
     tie.close
     (tie.spec
-    Inv-loop μ-loop loop-holds header-parts-requires known-requires (λ c. search needs) (λ c. search needs)
-    returns add-known-value known-value-requires (λ c. search needs) returns-2 (λ c. search needs) add-values
-    (λ c. search needs) (λ c. search needs) loop-less loop-again loop-less-2 loop-again-2 returns-3)
+    Inv-loop μ-loop (λ c κs. search needs) loop-holds header-parts-requires known-requires (λ c. search needs)
+    (λ c κs. search needs) returns add-known-value known-value-requires (λ c. search needs) returns-2
+    (λ c. search needs) add-with-field (λ c κs. search needs) (λ c. search needs) loop-less loop-again
+    loop-less-2 loop-again-2 returns-3)
