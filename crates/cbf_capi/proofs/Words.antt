@@ -1,7 +1,7 @@
 -- The word that a C call returns holds the number and the value apart, and fits; and where the octets of a section start. Assumes nothing.
 use Prim.Native.Nat.{ℕ, _+_, _*_, _/_, _%_, _^_, _<_, _≤_}
 use native.Mathlib.Omega.{arith}
-use mathlib.Core.Path.{_≡_, refl, ap, ap₂, _∙_}
+use mathlib.Core.Path.{_≡_, refl, ap, ap₂, subst, _∙_}
 use mathlib.Core.List.{List}
 use mathlib.Core.Option.{Option, none, some}
 use mathlib.Core.Bool.{Bool, true, false, cond}
@@ -31,16 +31,15 @@ use Rattle.cbf_format.proofs.FileLaws.{accepted}
 use Rattle.cbf_format.proofs.PlaceLaws.{read-place, read-limit, long-name-place}
 use Rattle.cbf_format.proofs.ListingLaws.{few-sections, listing-short}
 use Rattle.cbf_format.proofs.OctetLaws.{DataAt, data-at, position-in, binary-octets, octet-count, few-elements}
-use Rattle.cbf_sections.specs.declared.asked.OctetsPlace.{OctetsPlace}
-use Rattle.cbf_sections.specs.declared.asked.OctetsPlace.the-variants as O
-use Rattle.cbf_sections.specs.SectionCalls.{readOutcome, asked, askedOf, octetsFor, octetsOutcome, placeFor, placeOf, octetsPlace, frameOf, frameOutcome}
-use Rattle.cbf_sections.proofs.SectionCallLaws.{placeSays, place-says}
+use Rattle.cbf_sections.specs.SectionCalls.{Result, refusal, value, orMissing, sectionOf, ofSection, sectionOutcome, readOutcome}
+use Rattle.cbf_sections.specs.SectionCalls.{Octets, octetsFor, octetsOf, Place, octetsPlace, octetsOutcome, frameOf, frameOutcome}
+use Rattle.cbf_sections.proofs.SectionCallLaws.{placeOutcome, place-outcome}
 use Rattle.cbf_write.specs.Rooms.{roomFor}
 use Rattle.cbf_format.specs.House.{replacedFile}
 use Rattle.cbf_replace.specs.ReplaceCalls.{frameFits, roomForFile, replacePacked, replaceFitting, replaceFor, replaceOutcome}
 use Rattle.cbf.specs.Outcomes.{listOutcome, cataloguedOr, catalogueOutcome}
 use Rattle.cbf.proofs.CatalogueLaws.{catalogue-short}
-use Rattle.cbf_capi.specs.Words.{packCall, unpackCall, unpackedBy, startFor, startOf, octetsStart, word}
+use Rattle.cbf_capi.specs.Words.{packCall, unpackCall, unpackedBy, octetsStart, word}
 
 -- document 01's number, 0 for none, and the place or the length
 abbrev pub numberOf : Outcome → ℕ
@@ -137,39 +136,49 @@ count-halves file = go (read lineLimit file) refl
     go (R.refused k p) e = unread file k p e
     go (good its) e = halves (gives (length (sections 0 its))) (omega arith) (omega (arith, few-sections lineLimit file its e))
 
--- what is asked of a section: reading's refusal, 12, or what holds of each section of the file
-asked-halves : (file : List ℕ) (n : ℕ) (f : Placed → Outcome) → ((p : Placed) → DataAt lineLimit file p → length file ≤ fileLimit → Halves (f p))
-    → Halves (asked (read lineLimit file) n f)
-asked-halves file n f each = go (read lineLimit file) refl
+-- what is answered for a section: reading's refusal, 12, or what holds of each section of the file
+section-halves : (file : List ℕ) (n : ℕ) (f : Placed → Outcome)
+    → ((p : Placed) → DataAt lineLimit file p → length file ≤ fileLimit → Halves (f p))
+    → Halves (sectionOutcome (sectionOf (read lineLimit file) n) f)
+section-halves file n f each = go (read lineLimit file) refl
   where
-    go : (r : Reading (Item State Section)) → read lineLimit file ≡ r → Halves (asked r n f)
+    go : (r : Reading (Item State Section)) → read lineLimit file ≡ r → Halves (sectionOutcome (sectionOf r n) f)
     go (R.refused k p) e = unread file k p e
     go (good its) e = by (numbered n (sections 0 its)) refl
       where
-        by : (o : Option Placed) → numbered n (sections 0 its) ≡ o → Halves (askedOf (good its) o f)
+        by : (o : Option Placed) → numbered n (sections 0 its) ≡ o → Halves (sectionOutcome (orMissing o) f)
         by none q = refused 12 (omega arith)
         by (some p) q = each p (data-at lineLimit n file its p e q) (accepted lineLimit file its e .not-long)
 
-pub octets-halves : (file : List ℕ) (n : ℕ) → Halves (octetsOutcome (read lineLimit file) n)
-unfolding octetsOutcome
-octets-halves file n = asked-halves file n _ (λ p d l. go p d l (p .section .description .encoding) refl)
+-- the number of octets, as an answer for the section
+octets-answer : (r : Result Placed) (f : Placed → Result Octets)
+    → sectionOutcome r (λ p. octetsOutcome (f p)) ≡ octetsOutcome (ofSection r f)
+octets-answer (refusal k p) f = refl
+octets-answer (value p) f = refl
+
+octets-halves : (file : List ℕ) (n : ℕ) → Halves (octetsOutcome (octetsOf (read lineLimit file) n))
+unfolding octetsOf
+octets-halves file n =
+    subst Halves (octets-answer (sectionOf (read lineLimit file) n) _)
+    (section-halves file n _ (λ p d l. go p d l (p .section .description .encoding) refl))
   where
-    go : (p : Placed) → DataAt lineLimit file p → length file ≤ fileLimit → (e : Encoding) → p .section .description .encoding ≡ e
-        → Halves (octetsFor e (p .section .octets))
-    go p d l Binary q = halves (gives (length (p .section .octets))) (omega arith) (omega (arith, octet-count d, binary-octets d q .1))
+    go : (p : Placed) → DataAt lineLimit file p → length file ≤ fileLimit → (e : Encoding)
+        → p .section .description .encoding ≡ e → Halves (octetsOutcome (octetsFor e (position p) (p .section .octets)))
+    go p d l Binary q =
+        halves (gives (length (p .section .octets))) (omega arith) (omega (arith, octet-count d, binary-octets d q .1))
     go p d l Base64 q = refused 18 (omega arith)
 
 pub frame-halves : (file : List ℕ) (n room : ℕ) → Halves (frameOutcome (read lineLimit file) n room)
 unfolding frameOutcome
 frame-halves file n room =
-    asked-halves file n _ (λ p d l.
+    section-halves file n _ (λ p d l.
     picked (isSome (frameOf p)) _ _ (halves (refuses 13 (position p)) (omega arith) (omega (arith, position-in d))) (λ a.
     tested (leb (p .section .description .elements) room) _ 15 (omega arith) (λ b.
     halves (gives (p .section .description .elements)) (omega arith) (omega (arith, few-elements d)))))
 
 pub replace-halves : (file : List ℕ) (n : ℕ) (frame : List ℤ) (room : ℕ) → Halves (replaceOutcome file (read lineLimit file) n frame room)
 unfolding replaceOutcome replaceFitting replacePacked roomForFile
-replace-halves file n frame room = asked-halves file n _ (λ p d l. go p (p .section .description .encoding))
+replace-halves file n frame room = section-halves file n _ (λ p d l. go p (p .section .description .encoding))
   where
     go : (p : Placed) (e : Encoding) → Halves (replaceFor e (p .section .description) frame (replacedFile file p (packByteOffset frame)) room)
     go p Binary =
@@ -182,34 +191,29 @@ replace-halves file n frame room = asked-halves file n _ (λ p d l. go p (p .sec
 
 -- ---- where the octets start
 
-abbrev pub startAt : OctetsPlace → ℕ → ℕ
-startAt (O.Refused r) old = old
-startAt (O.At first size) old = first
+abbrev pub startAt : Result Place → ℕ → ℕ
+startAt (refusal k p) old = old
+startAt (value a) old = a .start
 
-start-at : (r : Reading (Item State Section)) (n old : ℕ) → startAt (octetsPlace r n) old ≡ octetsStart r n old
-unfolding octetsPlace octetsStart
-start-at (R.refused k p) n old = refl
-start-at (good its) n old = go (numbered n (sections 0 its))
-  where
-    for : (p : Placed) (e : Encoding) → startAt (placeFor e (position p) (p .section .description .size)) old ≡ startFor e (position p) old
-    for p Binary = refl
-    for p Base64 = refl
+start-at : (o : Result Octets) (old : ℕ) → startAt (octetsPlace o) old ≡ octetsStart o old
+start-at (refusal k p) old = refl
+start-at (value o) old = refl
 
-    go : (o : Option Placed) → startAt (placeOf o) old ≡ startOf o old
-    go none = refl
-    go (some p) = for p (p .section .description .encoding)
+-- the place that the code answers, and what the call then answers
+module _ (file : List ℕ) (n : ℕ) {x : Result Place} (is : x ≡ octetsPlace (octetsOf (read lineLimit file) n)) where
+  found-outcome : placeOutcome x ≡ octetsOutcome (octetsOf (read lineLimit file) n)
+  found-outcome = ap placeOutcome is ∙ place-outcome (octetsOf (read lineLimit file) n)
 
--- the place that the code found, and what the call then answers
-module _ (file : List ℕ) (n : ℕ) {x : OctetsPlace} (is : x ≡ octetsPlace (read lineLimit file) n) where
-  place-outcome : placeSays x ≡ octetsOutcome (read lineLimit file) n
-  place-outcome = ap placeSays is ∙ place-says lineLimit n file .0
+  pub place-halves : Halves (placeOutcome x)
+  place-halves = rw found-outcome (octets-halves file n)
 
-  pub place-halves : Halves (placeSays x)
-  place-halves = rw place-outcome (octets-halves file n)
-
-  pub octets-say : (old : ℕ) {r new : ℕ} → r ≡ word (placeSays x) → new ≡ startAt x old
-      → (r ≡ word (octetsOutcome (read lineLimit file) n)) × (new ≡ octetsStart (read lineLimit file) n old)
-  octets-say old a b = (a ∙ ap word place-outcome, b ∙ ap (λ (y : OctetsPlace). startAt y old) is ∙ start-at (read lineLimit file) n old)
+  pub octets-say : (old : ℕ) {r new : ℕ} → r ≡ word (placeOutcome x) → new ≡ startAt x old
+      → (r ≡ word (octetsOutcome (octetsOf (read lineLimit file) n)))
+      × (new ≡ octetsStart (octetsOf (read lineLimit file) n) old)
+  octets-say old a b = (
+    a ∙ ap word found-outcome,
+    b ∙ ap (λ (y : Result Place). startAt y old) is ∙ start-at (octetsOf (read lineLimit file) n) old,
+  )
 
 -- ---- what the calls answer, for the numbers of a type and of a compression
 

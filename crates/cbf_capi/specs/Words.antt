@@ -12,14 +12,7 @@ use Rattle.cbf_capi.specs.declared.Element.{Element}
 use Rattle.cbf_capi.specs.declared.Element.the-variants as E
 use Rattle.cbf_capi.specs.declared.Compressed.{Compressed}
 use Rattle.cbf_capi.specs.declared.Compressed.the-variants as C
-use mathlib.Core.Option.{Option, none, some}
-use Rattle.cbf_walk.specs.Reading.{Item, Reading}
-use Rattle.cbf_format.specs.declared.Encoding.{Encoding}
-use Rattle.cbf_format.specs.declared.Encoding.the-variants.{Binary, Base64}
-use Rattle.cbf_format.specs.Sections.{Section}
-use Rattle.cbf_format.specs.Files.{State}
-use Rattle.cbf_format.specs.Listing.{Placed, position}
-use Rattle.cbf_sections.specs.SectionCalls.{found}
+use Rattle.cbf_sections.specs.SectionCalls.{Result, refusal, value, Octets}
 use Rattle.cbf_pixels.specs.Answers.{Outcome, gives, refuses, packOutcome, unpackOutcome, pixelsOf, unpackPixels}
 
 -- "type (1 u8, 2 s8, 3 u16, 4 s16, 5 u32, 6 s32)"
@@ -55,17 +48,10 @@ unpackedBy E.Unknown c n os = []
 unpackedBy (E.Known t) C.Unknown n os = []
 unpackedBy (E.Known t) (C.Known c) n os = pixelsOf (unpackPixels c t n os)
 
--- where the octets of a BINARY section start; what stood there before, for every refusal
-abbrev pub startFor : Encoding → ℕ → ℕ → ℕ
-startFor Binary first old = first
-startFor Base64 first old = old
-
-abbrev pub startOf : Option Placed → ℕ → ℕ
-startOf none old = old
-startOf (some p) old = startFor (p .section .description .encoding) (position p) old
-
-unfoldable pub octetsStart : Reading (Item State Section) → ℕ → ℕ → ℕ
-octetsStart r n old = startOf (found r n) old
+-- where the octets of a section start; what stood there before, for every refusal
+abbrev pub octetsStart : Result Octets → ℕ → ℕ
+octetsStart (refusal k p) old = old
+octetsStart (value o) old = o .start
 
 -- "The upper 32 bits are the refusal number, 0 for none; the lower 32 the place of a refusal, or the length of the answer."
 abbrev pub word : Outcome → ℕ

@@ -14,7 +14,7 @@ ghost use Rattle.cbf_format.specs.Lines.{lineLimit};
 ghost use Rattle.cbf_format.specs.Files.{read};
 ghost use Rattle.cbf_format.specs.Listing.{listing};
 ghost use Rattle.cbf.specs.Outcomes.{listOutcome, catalogueOutcome, catalogueText};
-ghost use Rattle.cbf_sections.specs.SectionCalls.{readOutcome, octetsOutcome, frameOutcome, framePixels};
+ghost use Rattle.cbf_sections.specs.SectionCalls.{readOutcome, octetsOf, octetsOutcome, frameOutcome, framePixels};
 ghost use Rattle.cbf_replace.specs.ReplaceCalls.{replaceOutcome, replacedBy};
 ghost use Rattle.cbf_capi.specs.Words.{element, compressed, packCall, unpackCall, unpackedBy, octetsStart, word};
 
@@ -118,8 +118,8 @@ pub extern "C" fn cbf_count(file: &[u8]) -> u64
 // Tells where the octets of a BINARY section are.
 #[no_mangle]
 pub extern "C" fn cbf_octets(file: &[u8], section: usize, start: &mut u64) -> u64
-    ensures answer { λ r. ⌜ r ≡ word (octetsOutcome (read lineLimit (now (file .entry))) section) ⌝ }
-    ensures start { λ _. ⌜ now (start .exit) ≡ octetsStart (read lineLimit (now (file .entry))) section (now (start .entry)) ⌝ }
+    ensures answer { λ r. ⌜ r ≡ word (octetsOutcome (octetsOf (read lineLimit (now (file .entry))) section)) ⌝ }
+    ensures start { λ _. ⌜ now (start .exit) ≡ octetsStart (octetsOf (read lineLimit (now (file .entry))) section) (now (start .entry)) ⌝ }
 {
     let place = cbf::octets_at(file, LINE_LIMIT, section);
     match place {

@@ -1,6 +1,6 @@
 -- The section of the code and the section of the file: its span, and the new file. Assumes nothing.
-use mathlib.Core.Path.{_≡_, refl, sym, _∙_, subst}
-use mathlib.Core.Option.{Option, none, some, Option·getD, Option·none-ne-some}
+use mathlib.Core.Path.{_≡_, refl, sym, ap, _∙_, subst}
+use mathlib.Core.Option.{Option, none, some, Option·getD}
 use mathlib.Core.List.{List}
 use Prim.Native.Nat.{ℕ, zero, suc, _≤_}
 use native.Mathlib.Omega.{arith}
@@ -25,8 +25,8 @@ use Rattle.cbf_reader.specs.WalkPlaces.{SectionOf}
 use Rattle.cbf_reader.specs.Surveys.{NumberedSays}
 use Rattle.cbf_reader.specs.declared.step.Section.{Section}
 use Rattle.cbf_reader.specs.declared.survey.Numbered.the-variants as N
-use Rattle.cbf_sections.specs.SectionCalls.{found}
-use Rattle.cbf_sections.proofs.SectionCallLaws.{frame-of, asked-found, asked-refused}
+use Rattle.cbf_sections.specs.SectionCalls.{value, orMissing, sectionOf}
+use Rattle.cbf_sections.proofs.SectionCallLaws.{frame-of, section-answer, section-refused}
 use Rattle.cbf_write.proofs.RoomLaws.{Says, refusal}
 use Rattle.cbf_replace.specs.ReplaceCalls.{replaceFitting, replaceFor, replaceOutcome, replacedBy}
 use Rattle.cbf_replace.specs.HeadTexts.{described}
@@ -74,15 +74,20 @@ here {file} {p} {s} i a =
       new = λ os. rw d refl;
     })
 
-found-good : (r : Reading (Item F.State S.Section)) (n : ℕ) (p : Placed) → found r n ≡ some p → (its : F.Tree) × (r ≡ good its) × (numbered n (sections 0 its) ≡ some p)
-found-good (refused k q) n p e = absurd (Option·none-ne-some p e)
-found-good (good its) n p e = (its, refl, e)
+section-good : (r : Reading (Item F.State S.Section)) (n : ℕ) (p : Placed) → sectionOf r n ≡ value p
+    → (its : F.Tree) × (r ≡ good its) × (numbered n (sections 0 its) ≡ some p)
+section-good (refused k q) n p e = let z : _≡_ {A = ℕ} 0 1 = cc in absurd (omega arith)
+section-good (good its) n p e = (its, refl, go (numbered n (sections 0 its)) e)
+  where
+    go : (o : Option Placed) → orMissing o ≡ value p → o ≡ some p
+    go none e = let z : _≡_ {A = ℕ} 0 1 = cc in absurd (omega arith)
+    go (some q) e = let s : q ≡ p = cc in ap some s
 
 pub here-of : (limit n : ℕ) (file : List ℕ) (s : Section) → NumberedSays file n (F.read limit file) (N.As s)
-    → (p : Placed) × (found (F.read limit file) n ≡ some p) × Here file p s
+    → (p : Placed) × (sectionOf (F.read limit file) n ≡ value p) × Here file p s
 here-of limit n file s h =
     let f = frame-of limit n file s h in
-    let g = found-good (F.read limit file) n (f .0) (f .1) in
+    let g = section-good (F.read limit file) n (f .0) (f .1) in
     (f .0, f .1, here (f .2 .is) (span-at limit n file (g .0) (f .0) (g .1) (g .2)))
 
 -- ---- what is answered
@@ -93,13 +98,14 @@ Replaces file r n frame old said out = Says (replaceOutcome file r n frame (leng
 pub replace-refused : (file : List ℕ) (n : ℕ) (r : Reading (Item F.State S.Section)) (t : Refusal) (frame : List ℤ) (old : List ℕ) → NumberedSays file n r (N.Refused t)
     → Replaces file r n frame old (refuses (t .number) (t .place)) old
 unfolding replaceOutcome
-replace-refused file n r t frame old h = refusal (replacedBy file r n frame) old (asked-refused file n r t _ h)
+replace-refused file n r t frame old h = refusal (replacedBy file r n frame) old (section-refused file n r t _ h)
 
-module _ (file : List ℕ) (r : Reading (Item F.State S.Section)) (n : ℕ) (frame : List ℤ) (old : List ℕ) {p : Placed} {s : Section} (at : found r n ≡ some p) (h : Here file p s) where
+module _ (file : List ℕ) (r : Reading (Item F.State S.Section)) (n : ℕ) (frame : List ℤ) (old : List ℕ) {p : Placed} {s : Section}
+    (at : sectionOf r n ≡ value p) (h : Here file p s) where
   answer : {e : Encoding} → s .description .encoding ≡ e
       → replaceFor e (p .section .description) frame (replacedFile file p (packByteOffset frame)) (length old) ≡ replaceOutcome file r n frame (length old)
   unfolding replaceOutcome
-  answer q = rw (sym q ∙ h .encoding) (sym (asked-found r n p _ at))
+  answer q = rw (sym q ∙ h .encoding) (sym (section-answer p _ at))
 
   file-is : replacedFile file p (packByteOffset frame) ≡ replacedBy file r n frame
   unfolding replacedBy

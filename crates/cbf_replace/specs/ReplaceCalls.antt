@@ -1,5 +1,4 @@
 -- What replacement answers, by document 01's numbers: reading's refusal, then "12, 18, 14, 16, 15"; and the file that it gives.
-use mathlib.Core.Option.{Option, none, some}
 use mathlib.Core.Bool.{Bool, _&&_}
 use mathlib.Core.List.{List, []}
 use Prim.Native.Nat.{ℕ}
@@ -18,7 +17,7 @@ use Rattle.cbf_format.specs.Files.{State}
 use Rattle.cbf_format.specs.Listing.{Placed}
 use Rattle.cbf_format.specs.House.{replacedFile}
 use Rattle.cbf_write.specs.Rooms.{roomFor}
-use Rattle.cbf_sections.specs.SectionCalls.{found, asked}
+use Rattle.cbf_sections.specs.SectionCalls.{Result, refusal, value, sectionOf, sectionOutcome}
 
 -- "Fits: as many pixels as elements, each inside the integer type"
 unfoldable pub frameFits : Description → List ℤ → Bool
@@ -46,12 +45,13 @@ replaceFor Base64 d frame new room = refuses 18 0
 
 unfoldable pub replaceOutcome : List ℕ → Reading (Item State Section) → ℕ → List ℤ → ℕ → Outcome
 replaceOutcome file r n frame room =
-    asked r n (λ p. let d = p .section .description in replaceFor (d .encoding) d frame (replacedFile file p (packByteOffset frame)) room)
+    sectionOutcome (sectionOf r n) (λ p.
+    let d = p .section .description in replaceFor (d .encoding) d frame (replacedFile file p (packByteOffset frame)) room)
 
-abbrev pub newFile : List ℕ → Option Placed → List ℤ → List ℕ
-newFile file none frame = []
-newFile file (some p) frame = replacedFile file p (packByteOffset frame)
+abbrev pub newFile : List ℕ → Result Placed → List ℤ → List ℕ
+newFile file (refusal k p) frame = []
+newFile file (value p) frame = replacedFile file p (packByteOffset frame)
 
 -- the file with the section's span in house form with the frame
 unfoldable pub replacedBy : List ℕ → Reading (Item State Section) → ℕ → List ℤ → List ℕ
-replacedBy file r n frame = newFile file (found r n) frame
+replacedBy file r n frame = newFile file (sectionOf r n) frame

@@ -1,6 +1,6 @@
 -- A file's section with a number: from what the reader says of it to what the calls answer, and where its octets are. Assumes nothing.
 use mathlib.Core.Path.{_≡_, refl, sym, ap, _∙_, subst}
-use mathlib.Core.Option.{Option, none, some, Option·none-ne-some}
+use mathlib.Core.Option.{Option, none, some}
 use mathlib.Core.Bool.{Bool, true, false}
 use mathlib.Core.List.{List, []}
 use Prim.Native.Nat.{ℕ, _+_, _-_, _*_, _≤_}
@@ -31,10 +31,10 @@ use Rattle.cbf_reader.specs.declared.survey.Count.the-variants as C
 use Rattle.cbf_reader.specs.declared.survey.Numbered.{Numbered}
 use Rattle.cbf_reader.specs.declared.survey.Numbered.the-variants as N
 use Rattle.cbf_text.specs.Texts.{GoodText, textOctets, TextOf}
-use Rattle.cbf_sections.specs.SectionCalls.{readOutcome, found, asked, fields, seen, fieldsOf, sectionFields, askedOf, octetsFor, octetsOutcome, partOf, partIn, octetsPart, placeFor, placeOf, octetsPlace, placedAt, frameOf, frameFor, frameOutcome, framePixels}
+use Rattle.cbf_sections.specs.SectionCalls.{readOutcome, Result, refusal, value, orMissing, sectionOf, ofSection, sectionOutcome}
+use Rattle.cbf_sections.specs.SectionCalls.{numberedFields, fieldsOf, sectionFields, placedAt, frameOf, frameFor, frameOutcome, framePixels}
+use Rattle.cbf_sections.specs.SectionCalls.{Octets, octetsFor, octetsIn, octetsOf, Place, octetsPlace, octetsOutcome, octetsPart}
 use Rattle.cbf_sections.specs.FramePlaces.{FrameOf}
-use Rattle.cbf_sections.specs.declared.asked.OctetsPlace.{OctetsPlace}
-use Rattle.cbf_sections.specs.declared.asked.OctetsPlace.the-variants as O
 use Rattle.cbf_format.proofs.Slices.{slice-part}
 use Rattle.cbf_text.proofs.SectionTexts.{text-of}
 
@@ -51,38 +51,39 @@ count-outcome (good its) = refl
 
 -- ---- the section with a number
 
-pub section-fields : (file : List ℕ) (n : ℕ) (r : Reading (Item F.State S.Section)) (s : Numbered) → NumberedSays file n r s → seen file s ≡ sectionFields r n
+pub section-fields : (file : List ℕ) (n : ℕ) (r : Reading (Item F.State S.Section)) (s : Numbered) → NumberedSays file n r s
+    → numberedFields file s ≡ sectionFields r n
 unfolding sectionFields
-section-fields file n (refused k p) s e = ap (seen file) e
+section-fields file n (refused k p) s e = ap (numberedFields file) e
 section-fields file n (good its) s e = go (numbered n (sections 0 its)) e
   where
-    go : (o : Option Placed) → NumberedIs file o s → seen file s ≡ fieldsOf o
-    go none e = ap (seen file) e
+    go : (o : Option Placed) → NumberedIs file o s
+        → numberedFields file s ≡ ofSection (orMissing o) (λ p. value (fieldsOf p))
+    go none e = ap (numberedFields file) e
     go (some p) (t, e, d) =
         let b = slice (t .block .from) (t .block .to) file in
-        ap (seen file) e ∙ ap (λ (z : Section). fields (z .description) (z .from) (z .to) (z .first) b) (d .fields) ∙ rw (d .block)
+        ap (numberedFields file) e
+        ∙ ap (λ (z : Section). value (record {
+          description = z .description;
+          boundary = z .from;
+          end = z .to;
+          first = z .first;
+          block = b;
+        })) (d .fields)
+        ∙ rw (d .block)
 
 -- ---- its octets
 
 -- where the octets of the code's section are
-abbrev pub placeIn : Numbered → OctetsPlace
-placeIn (N.Refused r) = O.Refused r
-placeIn (N.As s) = placeFor (s .description .encoding) (s .first) (s .description .size)
+abbrev pub placeFor : Encoding → ℕ → ℕ → Result Place
+placeFor Binary first size = value (record { start = first; count = size })
+placeFor Base64 first size = refusal 18 0
 
-pub place-in : (file : List ℕ) (n : ℕ) (r : Reading (Item F.State S.Section)) (s : Numbered) → NumberedSays file n r s → placeIn s ≡ octetsPlace r n
-unfolding octetsPlace
-place-in file n (refused k p) s e = ap placeIn e
-place-in file n (good its) s e = go (numbered n (sections 0 its)) e
-  where
-    go : (o : Option Placed) → NumberedIs file o s → placeIn s ≡ placeOf o
-    go none e = ap placeIn e
-    go (some p) (t, e, d) = ap placeIn e ∙ ap (λ (z : Section). placeFor (z .description .encoding) (z .first) (z .description .size)) (d .fields)
+abbrev pub numberedPlace : Numbered → Result Place
+numberedPlace (N.Refused r) = refusal (r .number) (r .place)
+numberedPlace (N.As s) = placeFor (s .description .encoding) (s .first) (s .description .size)
 
-abbrev pub placeSays : OctetsPlace → Outcome
-placeSays (O.Refused r) = refuses (r .number) (r .place)
-placeSays (O.At first size) = gives size
-
--- the part of the file at the place
+-- the part of the file at a place
 pub record PartAt (file octets : List ℕ) (from to : ℕ) : Type 0 where
   pub low : from ≤ to
   pub high : to ≤ length file
@@ -92,34 +93,75 @@ pub record PartAt (file octets : List ℕ) (from to : ℕ) : Type 0 where
 pub part-taken : {file octets : List ℕ} {from to : ℕ} → PartAt file octets from to → take (to - from) (drop from file) ≡ octets
 part-taken {file} {from} {to} a = sym (slice-part file from to (a .low) (a .high)) ∙ a .is
 
-abbrev pub PartFor : List ℕ → List ℕ → OctetsPlace → Type 0
-PartFor file octets (O.Refused r) = PartAt file octets 0 0
-PartFor file octets (O.At first size) = PartAt file octets first (first + size)
+abbrev pub PartFor : List ℕ → List ℕ → Result Place → Type 0
+PartFor file octets (refusal k p) = PartAt file octets 0 0
+PartFor file octets (value a) = PartAt file octets (a .start) (a .start + a .count)
 
 -- no part
 no-part : (file : List ℕ) → PartAt file [] 0 0
 no-part file = record { low = omega arith; high = omega arith; is = refl }
 
 module _ (limit n : ℕ) (file : List ℕ) where
-  octets-for : (p : Placed) (e : Encoding) → p .section .description .encoding ≡ e → DataAt limit file p
-      → let x = placeFor e (position p) (p .section .description .size) in (placeSays x ≡ octetsFor e (p .section .octets)) × PartFor file (partOf e (p .section .octets)) x
-  octets-for p Binary q d = let b = binary-octets d q in (ap gives (sym (octet-count d)), record { low = omega arith; high = b .1; is = sym (b .0) })
-  octets-for p Base64 q d = (refl, no-part file)
-
-  -- what is answered of a place in the file, and which octets are there
-  pub place-says : (placeSays (octetsPlace (F.read limit file) n) ≡ octetsOutcome (F.read limit file) n)
-      × PartFor file (octetsPart (F.read limit file) n) (octetsPlace (F.read limit file) n)
-  unfolding octetsPlace octetsOutcome octetsPart
-  place-says = go (F.read limit file) refl
+  -- the place that the code's section says
+  pub place-in : (s : Numbered) → NumberedSays file n (F.read limit file) s
+      → numberedPlace s ≡ octetsPlace (octetsOf (F.read limit file) n)
+  unfolding octetsOf
+  place-in s h = go (F.read limit file) refl h
     where
-      go : (r : Reading (Item F.State S.Section)) → F.read limit file ≡ r → (placeSays (octetsPlace r n) ≡ octetsOutcome r n) × PartFor file (octetsPart r n) (octetsPlace r n)
-      go (refused k p) e = (refl, no-part file)
+      for : (p : Placed) (e : Encoding) → DataAt limit file p
+          → placeFor e (position p) (p .section .description .size) ≡ octetsPlace (octetsFor e (position p) (p .section .octets))
+      for p Binary d = ap (λ (k : ℕ). value (record { start = position p; count = k })) (sym (octet-count d))
+      for p Base64 d = refl
+
+      go : (r : Reading (Item F.State S.Section)) → F.read limit file ≡ r → NumberedSays file n r s
+          → numberedPlace s ≡ octetsPlace (octetsOf r n)
+      go (refused k p) e h = ap numberedPlace h
+      go (good its) e h = by (numbered n (sections 0 its)) refl h
+        where
+          by : (o : Option Placed) → numbered n (sections 0 its) ≡ o → NumberedIs file o s
+              → numberedPlace s ≡ octetsPlace (ofSection (orMissing o) octetsIn)
+          by none q h = ap numberedPlace h
+          by (some p) q (t, same, d) =
+              ap numberedPlace same
+              ∙ ap (λ (z : Section). placeFor (z .description .encoding) (z .first) (z .description .size)) (d .fields)
+              ∙ for p (p .section .description .encoding) (data-at limit n file its p e q)
+
+  -- the octets are at their place in the file
+  pub part-at : PartFor file (octetsPart (octetsOf (F.read limit file) n)) (octetsPlace (octetsOf (F.read limit file) n))
+  unfolding octetsOf
+  part-at = go (F.read limit file) refl
+    where
+      Holds : Result Octets → Type 0
+      Holds o = PartFor file (octetsPart o) (octetsPlace o)
+
+      for : (p : Placed) (e : Encoding) → p .section .description .encoding ≡ e → DataAt limit file p
+          → Holds (octetsFor e (position p) (p .section .octets))
+      for p Binary q d =
+          let b = binary-octets d q in
+          record {
+            low = omega arith;
+            high = omega (arith, octet-count d, b .1);
+            is = ap (λ (k : ℕ). slice (position p) (position p + k) file) (octet-count d) ∙ sym (b .0);
+          }
+      for p Base64 q d = no-part file
+
+      go : (r : Reading (Item F.State S.Section)) → F.read limit file ≡ r → Holds (octetsOf r n)
+      go (refused k p) e = no-part file
       go (good its) e = by (numbered n (sections 0 its)) refl
         where
           by : (o : Option Placed) → numbered n (sections 0 its) ≡ o
-              → (placeSays (placeOf o) ≡ askedOf (good its) o (λ p. octetsFor (p .section .description .encoding) (p .section .octets))) × PartFor file (partIn o) (placeOf o)
-          by none h = (refl, no-part file)
-          by (some p) h = octets-for p (p .section .description .encoding) refl (data-at limit n file its p e h)
+              → Holds (ofSection (orMissing o) octetsIn)
+          by none q = no-part file
+          by (some p) q = for p (p .section .description .encoding) refl (data-at limit n file its p e q)
+
+-- how many octets there are at a place
+abbrev pub placeOutcome : Result Place → Outcome
+placeOutcome (refusal k p) = refuses k p
+placeOutcome (value a) = gives (a .count)
+
+pub place-outcome : (o : Result Octets) → placeOutcome (octetsPlace o) ≡ octetsOutcome o
+place-outcome (refusal k p) = refl
+place-outcome (value o) = refl
 
 -- ---- its frame
 
@@ -135,14 +177,16 @@ frame {p} d h =
 
 -- the code's section of an accepted file has the octets of the file's
 pub frame-of : (limit n : ℕ) (file : List ℕ) (s : Section) → NumberedSays file n (F.read limit file) (N.As s)
-    → (p : Placed) × (found (F.read limit file) n ≡ some p) × FrameOf file p s
+    → (p : Placed) × (sectionOf (F.read limit file) n ≡ value p) × FrameOf file p s
 frame-of limit n file s h = go (F.read limit file) refl h
   where
-    go : (r : Reading (Item F.State S.Section)) → F.read limit file ≡ r → NumberedSays file n r (N.As s) → (p : Placed) × (found r n ≡ some p) × FrameOf file p s
+    go : (r : Reading (Item F.State S.Section)) → F.read limit file ≡ r → NumberedSays file n r (N.As s)
+        → (p : Placed) × (sectionOf r n ≡ value p) × FrameOf file p s
     go (refused k q) e h = let z : _≡_ {A = ℕ} 0 1 = cc in absurd (omega arith)
     go (good its) e h = by (numbered n (sections 0 its)) refl h
       where
-        by : (o : Option Placed) → numbered n (sections 0 its) ≡ o → NumberedIs file o (N.As s) → (p : Placed) × (o ≡ some p) × FrameOf file p s
+        by : (o : Option Placed) → numbered n (sections 0 its) ≡ o → NumberedIs file o (N.As s)
+            → (p : Placed) × (orMissing o ≡ value p) × FrameOf file p s
         by none q h = let z : _≡_ {A = ℕ} 0 1 = cc in absurd (omega arith)
         by (some p) q (t, same, d) =
             let u : t ≡ s = cc in
@@ -195,17 +239,17 @@ pub said-of : {file : List ℕ} {s : Section} {os : List ℕ} {o : Outcome} (old
     × ((p : Placed) → FrameOf file p s → new ≡ outputFor s (p .section .octets) old)
 said-of old e u = (λ p f. rw (← (e p f)) (u .0), λ p f. rw (← (e p f)) (u .1))
 
--- what is asked of the section
-pub asked-found : (r : Reading (Item F.State S.Section)) (n : ℕ) (p : Placed) (f : Placed → Outcome) → found r n ≡ some p → asked r n f ≡ f p
-asked-found (refused k q) n p f e = absurd (Option·none-ne-some p e)
-asked-found (good its) n p f e = rw e
+-- what is answered for a section that is there
+pub section-answer : {r : Result Placed} (p : Placed) (f : Placed → Outcome) → r ≡ value p → sectionOutcome r f ≡ f p
+section-answer p f e = ap (λ (x : Result Placed). sectionOutcome x f) e
 
-pub asked-refused : (file : List ℕ) (n : ℕ) (r : Reading (Item F.State S.Section)) (t : Refusal) (f : Placed → Outcome) → NumberedSays file n r (N.Refused t)
-    → refuses (t .number) (t .place) ≡ asked r n f
-asked-refused file n (refused k p) t f e = cc
-asked-refused file n (good its) t f e = go (numbered n (sections 0 its)) e
+-- and where there is none
+pub section-refused : (file : List ℕ) (n : ℕ) (r : Reading (Item F.State S.Section)) (t : Refusal) (f : Placed → Outcome)
+    → NumberedSays file n r (N.Refused t) → refuses (t .number) (t .place) ≡ sectionOutcome (sectionOf r n) f
+section-refused file n (refused k p) t f e = cc
+section-refused file n (good its) t f e = go (numbered n (sections 0 its)) e
   where
-    go : (o : Option Placed) → NumberedIs file o (N.Refused t) → refuses (t .number) (t .place) ≡ askedOf (good its) o f
+    go : (o : Option Placed) → NumberedIs file o (N.Refused t) → refuses (t .number) (t .place) ≡ sectionOutcome (orMissing o) f
     go none e = cc
     go (some p) (s, e, d) = let z : _≡_ {A = ℕ} 0 1 = cc in absurd (omega arith)
 
@@ -250,16 +294,17 @@ FrameSays r n old o new = (o ≡ frameOutcome r n (length old)) × (new ≡ writ
 pub frame-refused : (file : List ℕ) (n : ℕ) (r : Reading (Item F.State S.Section)) (t : Refusal) (old : List ℤ) → NumberedSays file n r (N.Refused t)
     → FrameSays r n old (refuses (t .number) (t .place)) old
 unfolding frameOutcome written
-frame-refused file n r t old h = let e = asked-refused file n r t (λ p. frameFor p (length old)) h in (e, rw (← e))
+frame-refused file n r t old h = let e = section-refused file n r t (λ p. frameFor p (length old)) h in (e, rw (← e))
 
-module _ (limit n : ℕ) (file : List ℕ) {p : Placed} {s : Section} (here : found (F.read limit file) n ≡ some p) (f : FrameOf file p s) where
+module _ (limit n : ℕ) (file : List ℕ) {p : Placed} {s : Section} (here : sectionOf (F.read limit file) n ≡ value p)
+    (f : FrameOf file p s) where
   frame-answer : (room : ℕ) → placedAt (s .first) (answerFor s (p .section .octets) room)
       ≡ frameOutcome (F.read limit file) n room
   unfolding frameOutcome
   frame-answer room =
       ap (λ (z : Section). placedAt (z .first) (answerFor z (p .section .octets) room)) (f .is .fields)
       ∙ unpack-placed p room (f .few)
-      ∙ sym (asked-found (F.read limit file) n p (λ q. frameFor q room) here)
+      ∙ sym (section-answer p (λ q. frameFor q room) here)
 
   frame-pixels : pixelsFor s (p .section .octets) ≡ framePixels (F.read limit file) n
   unfolding framePixels frameOf

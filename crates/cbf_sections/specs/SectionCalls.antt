@@ -18,82 +18,116 @@ use Rattle.cbf_reader.specs.Found.{descriptionOf}
 use Rattle.cbf_reader.specs.declared.describe.Description.{Description}
 use Rattle.cbf_reader.specs.declared.survey.Numbered.{Numbered}
 use Rattle.cbf_reader.specs.declared.survey.Numbered.the-variants as N
-use Rattle.cbf_sections.specs.declared.asked.OctetsPlace.{OctetsPlace}
-use Rattle.cbf_sections.specs.declared.asked.OctetsPlace.the-variants as O
+use Rattle.cbf_sections.specs.declared.section_calls.OctetsPlace.{OctetsPlace}
+use Rattle.cbf_sections.specs.declared.section_calls.OctetsPlace.the-variants as O
 
 -- the number of sections, or reading's refusal
 unfoldable pub readOutcome : Reading (Item F.State S.Section) → Outcome
 readOutcome (refused k p) = refuses k p
 readOutcome (good its) = gives (length (sections 0 its))
 
--- the section with a number, where the file is accepted and has one
-abbrev pub found : Reading (Item F.State S.Section) → ℕ → Option Placed
-found (refused k p) n = none
-found (good its) n = numbered n (sections 0 its)
+-- ---- the section with a number
 
--- "Every call on a file reads it first"; 12: "section number is 0 or above the count"
-abbrev pub askedOf : Reading (Item F.State S.Section) → Option Placed → (Placed → Outcome) → Outcome
-askedOf (refused k p) o f = refuses k p
-askedOf (good its) none f = refuses 12 0
-askedOf (good its) (some p) f = f p
+-- "A refusal returns its number and place"; else the call has a value
+pub data Result (A : Type 0) : Type 0 where
+  refusal : ℕ → ℕ → Result A
+  value : A → Result A
 
-abbrev pub asked : Reading (Item F.State S.Section) → ℕ → (Placed → Outcome) → Outcome
-asked r n f = askedOf r (found r n) f
+-- 12: "section number is 0 or above the count"
+abbrev pub orMissing : Option Placed → Result Placed
+orMissing none = refusal 12 0
+orMissing (some p) = value p
+
+-- "Every call on a file reads it first"
+abbrev pub sectionOf : Reading (Item F.State S.Section) → ℕ → Result Placed
+sectionOf (refused k p) n = refusal k p
+sectionOf (good its) n = orMissing (numbered n (sections 0 its))
+
+-- what a call gives for a section, or the refusal that there is none
+abbrev pub ofSection : {A : Type 0} → Result Placed → (Placed → Result A) → Result A
+ofSection (refusal k p) f = refusal k p
+ofSection (value p) f = f p
+
+-- the same, where a call gives the length of what it wrote
+abbrev pub sectionOutcome : Result Placed → (Placed → Outcome) → Outcome
+sectionOutcome (refusal k p) f = refuses k p
+sectionOutcome (value p) f = f p
 
 -- ---- a section's fields
 
--- the fields, with the name of the data block itself; or the refusal
-pub data Fields : Type 0 where
-  fields : Description → ℕ → ℕ → ℕ → List ℕ → Fields
-  none-for : ℕ → ℕ → Fields
+-- description, boundary line, the span's end, position, and the name of the data block itself
+pub record Fields : Type 0 where
+  pub description : Description
+  pub boundary : ℕ
+  pub end : ℕ
+  pub first : ℕ
+  pub block : List ℕ
 
--- document 01's values for each case of the enum: description, boundary line, span's end, position, and block name
-abbrev pub seen : List ℕ → Numbered → Fields
-seen file (N.Refused r) = none-for (r .number) (r .place)
-seen file (N.As s) = fields (s .description) (s .from) (s .to) (s .first) (slice (s .block .from) (s .block .to) file)
+-- document 01's number and values for each case of the enum
+abbrev pub numberedFields : List ℕ → Numbered → Result Fields
+numberedFields file (N.Refused r) = refusal (r .number) (r .place)
+numberedFields file (N.As s) =
+    value (record {
+      description = s .description;
+      boundary = s .from;
+      end = s .to;
+      first = s .first;
+      block = slice (s .block .from) (s .block .to) file;
+    })
 
-abbrev pub fieldsOf : Option Placed → Fields
-fieldsOf none = none-for 12 0
-fieldsOf (some p) = fields (descriptionOf (p .section .description)) (p .boundary) (p .boundary + p .section .width) (position p) (p .section .block)
+abbrev pub fieldsOf : Placed → Fields
+fieldsOf p =
+    record {
+      description = descriptionOf (p .section .description);
+      boundary = p .boundary;
+      end = p .boundary + p .section .width;
+      first = position p;
+      block = p .section .block;
+    }
 
-unfoldable pub sectionFields : Reading (Item F.State S.Section) → ℕ → Fields
-sectionFields (refused k p) n = none-for k p
-sectionFields (good its) n = fieldsOf (numbered n (sections 0 its))
+unfoldable pub sectionFields : Reading (Item F.State S.Section) → ℕ → Result Fields
+sectionFields r n = ofSection (sectionOf r n) (λ p. value (fieldsOf p))
 
 -- ---- octets: "12, 18"
 
+-- where the octets of a section start, and the octets
+pub record Octets : Type 0 where
+  pub start : ℕ
+  pub octets : List ℕ
+
 -- 18: "octets .. asked of a BASE64 section"
-abbrev pub octetsFor : Encoding → List ℕ → Outcome
-octetsFor Binary os = gives (length os)
-octetsFor Base64 os = refuses 18 0
+abbrev pub octetsFor : Encoding → ℕ → List ℕ → Result Octets
+octetsFor Binary start os = value (record { start = start; octets = os })
+octetsFor Base64 start os = refusal 18 0
 
-unfoldable pub octetsOutcome : Reading (Item F.State S.Section) → ℕ → Outcome
-octetsOutcome r n = asked r n (λ p. octetsFor (p .section .description .encoding) (p .section .octets))
+abbrev pub octetsIn : Placed → Result Octets
+octetsIn p = octetsFor (p .section .description .encoding) (position p) (p .section .octets)
 
--- "an empty part where a part is returned"
-abbrev pub partOf : Encoding → List ℕ → List ℕ
-partOf Binary os = os
-partOf Base64 os = []
+unfoldable pub octetsOf : Reading (Item F.State S.Section) → ℕ → Result Octets
+octetsOf r n = ofSection (sectionOf r n) octetsIn
 
-abbrev pub partIn : Option Placed → List ℕ
-partIn none = []
-partIn (some p) = partOf (p .section .description .encoding) (p .section .octets)
+-- of these: where they start and how many they are; how many they are; and the octets themselves, "an empty part where a
+-- part is returned"
+pub record Place : Type 0 where
+  pub start : ℕ
+  pub count : ℕ
 
-unfoldable pub octetsPart : Reading (Item F.State S.Section) → ℕ → List ℕ
-octetsPart r n = partIn (found r n)
+abbrev pub octetsPlace : Result Octets → Result Place
+octetsPlace (refusal k p) = refusal k p
+octetsPlace (value o) = value (record { start = o .start; count = length (o .octets) })
 
--- where the octets start, and how many they are
-abbrev pub placeFor : Encoding → ℕ → ℕ → OctetsPlace
-placeFor Binary first size = O.At first size
-placeFor Base64 first size = O.Refused (record { number = 18; place = 0 })
+abbrev pub octetsOutcome : Result Octets → Outcome
+octetsOutcome (refusal k p) = refuses k p
+octetsOutcome (value o) = gives (length (o .octets))
 
-abbrev pub placeOf : Option Placed → OctetsPlace
-placeOf none = O.Refused (record { number = 12; place = 0 })
-placeOf (some p) = placeFor (p .section .description .encoding) (position p) (p .section .description .size)
+abbrev pub octetsPart : Result Octets → List ℕ
+octetsPart (refusal k p) = []
+octetsPart (value o) = o .octets
 
-unfoldable pub octetsPlace : Reading (Item F.State S.Section) → ℕ → OctetsPlace
-octetsPlace (refused k p) n = O.Refused (record { number = k; place = p })
-octetsPlace (good its) n = placeOf (numbered n (sections 0 its))
+-- document 01's number and values for each case of the enum
+abbrev pub placeOf : OctetsPlace → Result Place
+placeOf (O.Refused r) = refusal (r .number) (r .place)
+placeOf (O.At first size) = value (record { start = first; count = size })
 
 -- ---- unpacking: "12, 13, 15"
 
@@ -105,18 +139,19 @@ frameOf p =
 -- 13: "octets do not unpack", at the "section's first octet"; 15: "lent output shorter than the answer"
 abbrev pub frameFor : Placed → ℕ → Outcome
 frameFor p room =
-    pick (isSome (frameOf p)) (pick (leb (p .section .description .elements) room) (gives (p .section .description .elements)) (refuses 15 0)) (refuses 13 (position p))
+    let n = p .section .description .elements in
+    pick (isSome (frameOf p)) (pick (leb n room) (gives n) (refuses 15 0)) (refuses 13 (position p))
 
 unfoldable pub frameOutcome : Reading (Item F.State S.Section) → ℕ → ℕ → Outcome
 unfolding pick
-frameOutcome r n room = asked r n (λ p. frameFor p room)
+frameOutcome r n room = sectionOutcome (sectionOf r n) (λ p. frameFor p room)
 
-abbrev pub pixelsIn : Option Placed → List ℤ
-pixelsIn none = []
-pixelsIn (some p) = pixelsOf (frameOf p)
+abbrev pub pixelsIn : Result Placed → List ℤ
+pixelsIn (refusal k p) = []
+pixelsIn (value p) = pixelsOf (frameOf p)
 
 unfoldable pub framePixels : Reading (Item F.State S.Section) → ℕ → List ℤ
-framePixels r n = pixelsIn (found r n)
+framePixels r n = pixelsIn (sectionOf r n)
 
 -- the answer of unpacking octets alone, with 13 at the section's first octet
 abbrev pub placedAt : ℕ → Outcome → Outcome

@@ -1,11 +1,11 @@
 // The calls that count a file's sections, or ask for the fields, the octets or the pixels of one. What they answer is in specs/.
-mod asked;
 mod frame;
+mod section_calls;
 
-pub use asked::OctetsPlace;
-pub use asked::octets;
-pub use asked::octets_answer;
-pub use asked::octets_at;
-pub use asked::read;
-pub use asked::section;
 pub use frame::unpack;
+pub use section_calls::OctetsPlace;
+pub use section_calls::octets;
+pub use section_calls::octets_answer;
+pub use section_calls::octets_at;
+pub use section_calls::read;
+pub use section_calls::section;

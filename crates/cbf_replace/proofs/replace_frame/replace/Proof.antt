@@ -1,13 +1,12 @@
 -- `replace` meets its contract, by those of `numbered_section` and `replace_section`. Assumes nothing.
 use mathlib.Core.Path.{_≡_, subst}
-use mathlib.Core.Option.{some}
 use denote.Ref.{now}
 use borrow.Author.Needs.{needs}
 use Rattle.cbf_format.specs.Files as F
 use Rattle.cbf_format.specs.Listing.{Placed}
 use Rattle.cbf_reader.specs.Surveys.{NumberedSays}
 use Rattle.cbf_reader.specs.declared.survey.Numbered.{Numbered}
-use Rattle.cbf_sections.specs.SectionCalls.{found}
+use Rattle.cbf_sections.specs.SectionCalls.{value, sectionOf}
 use Rattle.cbf_replace.proofs.ReplaceLaws.{Here, here-of, replace-refused, replace-text, replace-binary}
 use Rattle.cbf_replace.proofs.replace_frame.replace.Statement.{statement}
 use Rattle.cbf_replace.proofs.replace_frame.replace.Tie as tie
@@ -22,7 +21,7 @@ said m e =
 -- the section that was found
 here : (b : tie.After-numbered2)
     → let a = b .before .before .before .before .before .args in
-    (p : Placed) × (found (F.read (a .limit) (now (a .file))) (a .number) ≡ some p) × Here (now (a .file)) p (b .numbered2 .given .0 .0)
+    (p : Placed) × (sectionOf (F.read (a .limit) (now (a .file))) (a .number) ≡ value p) × Here (now (a .file)) p (b .numbered2 .given .0 .0)
 here b =
     let m = b .before .before in
     let a = m .before .before .before .args in

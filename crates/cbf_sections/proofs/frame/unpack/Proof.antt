@@ -1,12 +1,11 @@
 -- `unpack` meets its contract, by those of `numbered_section`, `unpack_octets` and `placed`. Assumes nothing.
 use mathlib.Core.Path.{_≡_, ap, _∙_, subst}
-use mathlib.Core.Option.{some}
 use denote.Ref.{now}
 use Rattle.cbf_format.specs.Files as F
 use Rattle.cbf_reader.specs.Surveys.{NumberedSays}
 use Rattle.cbf_reader.specs.declared.survey.Numbered.{Numbered}
 use Rattle.cbf_format.specs.Listing.{Placed}
-use Rattle.cbf_sections.specs.SectionCalls.{found, placedAt}
+use Rattle.cbf_sections.specs.SectionCalls.{value, sectionOf, placedAt}
 use Rattle.cbf_sections.specs.FramePlaces.{FrameOf}
 use Rattle.cbf_sections.proofs.SectionCallLaws.{frame-of, frame-refused, frame-says}
 use borrow.Author.Needs.{needs}
@@ -22,9 +21,10 @@ said m e =
 
 -- the section that was found, with the octets that it stands for
 framed : (b : tie.After-numbered2)
-    → (p : Placed)
-    × (found (F.read (b .before .before .before .before .args .limit) (now (b .before .before .before .before .args .file))) (b .before .before .before .before .args .number) ≡ some p)
-    × FrameOf (now (b .before .before .before .before .args .file)) p (b .numbered2 .given .0 .0)
+    → let a = b .before .before .before .before .args in
+    (p : Placed)
+    × (sectionOf (F.read (a .limit) (now (a .file))) (a .number) ≡ value p)
+    × FrameOf (now (a .file)) p (b .numbered2 .given .0 .0)
 framed b =
     let m = b .before .before in
     let a = m .before .before .args in

@@ -6,8 +6,8 @@ use Rattle.cbf_reader.specs.declared.survey.Count.{Count}
 use Rattle.cbf_sections.specs.SectionCalls.{readOutcome}
 use Rattle.cbf_sections.proofs.SectionCallLaws.{countSays, count-outcome}
 use borrow.Author.Needs.{needs}
-use Rattle.cbf_sections.proofs.asked.read.Statement.{statement}
-use Rattle.cbf_sections.proofs.asked.read.Tie as tie
+use Rattle.cbf_sections.proofs.section_calls.read.Statement.{statement}
+use Rattle.cbf_sections.proofs.section_calls.read.Tie as tie
 
 -- what is answered for each count
 said : (m : tie.After-count-sections) {x : Count} → m .count-sections .result ≡ x

@@ -1,24 +1,30 @@
 -- `octets` meets its contract, by that of `octets_at`: the place is in the file. Assumes nothing.
-use mathlib.Core.Path.{_≡_, _∙_, sym, subst}
+use mathlib.Core.Path.{_≡_, _∙_, sym, ap, subst}
 use mathlib.Core.Logic.{⊎-elim}
 use native.Mathlib.Omega.{arith}
 use denote.Ref.{now}
 use Rattle.cbf_format.specs.Files as F
-use Rattle.cbf_sections.specs.SectionCalls.{octetsPart}
-use Rattle.cbf_sections.specs.declared.asked.OctetsPlace.{OctetsPlace}
-use Rattle.cbf_sections.proofs.SectionCallLaws.{PartAt, PartFor, part-taken, place-says}
+use Rattle.cbf_sections.specs.SectionCalls.{octetsOf, octetsPart, placeOf}
+use Rattle.cbf_sections.specs.declared.section_calls.OctetsPlace.{OctetsPlace}
+use Rattle.cbf_sections.proofs.SectionCallLaws.{PartAt, PartFor, part-taken, part-at}
 use borrow.Author.Needs.{needs}
-use Rattle.cbf_sections.proofs.asked.octets.Statement.{statement}
-use Rattle.cbf_sections.proofs.asked.octets.Tie as tie
+use Rattle.cbf_sections.proofs.section_calls.octets.Statement.{statement}
+use Rattle.cbf_sections.proofs.section_calls.octets.Tie as tie
 
 -- the part of the file at the place that was answered
-part : (m : tie.After-octets-at) {x : OctetsPlace} → m .octets-at .result ≡ x → PartFor (now (m .before .before .args .file)) (octetsPart (F.read (m .before .before .args .limit) (now (m .before .before .args .file))) (m .before .before .args .number)) x
+part : (m : tie.After-octets-at) {x : OctetsPlace} → m .octets-at .result ≡ x
+    → let a = m .before .before .args in
+    PartFor (now (a .file)) (octetsPart (octetsOf (F.read (a .limit) (now (a .file))) (a .number))) (placeOf x)
 part m e =
     let a = m .before .before .args in
     let file = now (a .file) in
-    subst (PartFor file (octetsPart (F.read (a .limit) file) (a .number))) (sym (m .octets-at .ensures) ∙ e) (place-says (a .limit) (a .number) file .1)
+    subst (PartFor file (octetsPart (octetsOf (F.read (a .limit) file) (a .number))))
+    (sym (m .octets-at .ensures) ∙ ap placeOf e)
+    (part-at (a .limit) (a .number) file)
 
-joined : (c : tie.At-match-came) → PartAt (now (c .before .before .before .args .file)) (octetsPart (F.read (c .before .before .before .args .limit) (now (c .before .before .before .args .file))) (c .before .before .before .args .number)) (c .match .from) (c .match .to)
+joined : (c : tie.At-match-came)
+    → let a = c .before .before .before .args in
+    PartAt (now (a .file)) (octetsPart (octetsOf (F.read (a .limit) (now (a .file))) (a .number))) (c .match .from) (c .match .to)
 joined c = ⊎-elim
     (λ w. rw (w .3, w .4) (part (c .before) (w .1 .given .1)))
     (λ w. rw (w .3, w .4) (part (c .before) (w .1 .given .1)))

@@ -7,7 +7,8 @@ use cbf_reader::Numbered;
 ghost use mathlib.Core.Path.{_≡_};
 ghost use Rattle.cbf_format.specs.Files as F;
 ghost use Rattle.cbf_pixels.specs.Answers.{outcome};
-ghost use Rattle.cbf_sections.specs.SectionCalls.{readOutcome, seen, sectionFields, octetsPlace, octetsOutcome, octetsPart};
+ghost use Rattle.cbf_sections.specs.SectionCalls.{readOutcome, numberedFields, sectionFields};
+ghost use Rattle.cbf_sections.specs.SectionCalls.{octetsOf, octetsPlace, octetsOutcome, octetsPart, placeOf};
 
 // How many sections the file has: reading's refusal, or their number.
 pub fn read(file: &[u8], limit: usize) -> Answer
@@ -23,7 +24,7 @@ pub fn read(file: &[u8], limit: usize) -> Answer
 // The fields of the section with this number, counted from 1: reading's refusal, 12, or the fields. Where in the file the name of its
 // data block lies is left free; what stands there is the name.
 pub fn section(file: &[u8], limit: usize, number: usize) -> Numbered
-    ensures answer { λ r. ⌜ seen (now (file .entry)) r ≡ sectionFields (F.read limit (now (file .entry))) number ⌝ }
+    ensures answer { λ r. ⌜ numberedFields (now (file .entry)) r ≡ sectionFields (F.read limit (now (file .entry))) number ⌝ }
 {
     cbf_reader::numbered_section(file, limit, number)
 }
@@ -36,7 +37,7 @@ pub enum OctetsPlace {
 
 // Where the octets of a BINARY section are: reading's refusal, 12, 18, or their place.
 pub fn octets_at(file: &[u8], limit: usize, number: usize) -> OctetsPlace
-    ensures answer { λ r. ⌜ r ≡ octetsPlace (F.read limit (now (file .entry))) number ⌝ }
+    ensures answer { λ r. ⌜ placeOf r ≡ octetsPlace (octetsOf (F.read limit (now (file .entry))) number) ⌝ }
 {
     let numbered = cbf_reader::numbered_section(file, limit, number);
     match numbered {
@@ -57,7 +58,7 @@ pub fn octets_at(file: &[u8], limit: usize, number: usize) -> OctetsPlace
 
 // How many octets a BINARY section has: the answer that goes with the part that `octets` hands back.
 pub fn octets_answer(file: &[u8], limit: usize, number: usize) -> Answer
-    ensures answer { λ r. ⌜ outcome r ≡ octetsOutcome (F.read limit (now (file .entry))) number ⌝ }
+    ensures answer { λ r. ⌜ outcome r ≡ octetsOutcome (octetsOf (F.read limit (now (file .entry))) number) ⌝ }
 {
     let place = octets_at(file, limit, number);
     match place {
@@ -69,7 +70,7 @@ pub fn octets_answer(file: &[u8], limit: usize, number: usize) -> Answer
 // The octets of a BINARY section, as a part of the file. The part is empty where octets_answer is a refusal; where an empty part lies
 // is left free, and it is at the file's start.
 pub fn octets(file: &[u8], limit: usize, number: usize) -> &[u8]
-    ensures part { λ r. ⌜ now r ≡ octetsPart (F.read limit (now (file .entry))) number ⌝ }
+    ensures part { λ r. ⌜ now r ≡ octetsPart (octetsOf (F.read limit (now (file .entry))) number) ⌝ }
 {
     let mut from: usize = 0;
     let mut to: usize = 0;

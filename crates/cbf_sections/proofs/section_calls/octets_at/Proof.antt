@@ -3,18 +3,20 @@ use mathlib.Core.Path.{_≡_, ap, _∙_, sym}
 use denote.Ref.{now}
 use Rattle.cbf_format.specs.Files as F
 use Rattle.cbf_reader.specs.declared.survey.Numbered.{Numbered}
-use Rattle.cbf_sections.specs.SectionCalls.{octetsPlace}
-use Rattle.cbf_sections.proofs.SectionCallLaws.{placeIn, place-in}
+use Rattle.cbf_sections.specs.SectionCalls.{octetsOf, octetsPlace}
+use Rattle.cbf_sections.proofs.SectionCallLaws.{numberedPlace, place-in}
 use borrow.Author.Needs.{needs}
-use Rattle.cbf_sections.proofs.asked.octets_at.Statement.{statement}
-use Rattle.cbf_sections.proofs.asked.octets_at.Tie as tie
+use Rattle.cbf_sections.proofs.section_calls.octets_at.Statement.{statement}
+use Rattle.cbf_sections.proofs.section_calls.octets_at.Tie as tie
 
 -- the place for each answer of the reader
 said : (m : tie.After-numbered-section) {x : Numbered} → m .numbered-section .result ≡ x
-    → placeIn x ≡ octetsPlace (F.read (m .before .before .args .limit) (now (m .before .before .args .file))) (m .before .before .args .number)
+    → let a = m .before .before .args in
+    numberedPlace x ≡ octetsPlace (octetsOf (F.read (a .limit) (now (a .file))) (a .number))
 said m e =
     let a = m .before .before .args in
-    ap placeIn (sym e) ∙ place-in (now (a .file)) (a .number) (F.read (a .limit) (now (a .file))) (m .numbered-section .result) (m .numbered-section .ensures)
+    ap numberedPlace (sym e)
+    ∙ place-in (a .limit) (a .number) (now (a .file)) (m .numbered-section .result) (m .numbered-section .ensures)
 
 returns : tie.Need-returns
 returns c = said (c .before .before .before) (c .before .numbered .given .1)

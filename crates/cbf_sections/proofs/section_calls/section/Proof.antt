@@ -3,8 +3,8 @@ use denote.Ref.{now}
 use Rattle.cbf_format.specs.Files as F
 use Rattle.cbf_sections.proofs.SectionCallLaws.{section-fields}
 use borrow.Author.Needs.{needs}
-use Rattle.cbf_sections.proofs.asked.section.Statement.{statement}
-use Rattle.cbf_sections.proofs.asked.section.Tie as tie
+use Rattle.cbf_sections.proofs.section_calls.section.Statement.{statement}
+use Rattle.cbf_sections.proofs.section_calls.section.Tie as tie
 
 returns : tie.Need-returns
 returns c =
