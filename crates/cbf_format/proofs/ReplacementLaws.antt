@@ -10,9 +10,9 @@ use lib.Dec.{ltb, leb·suc-suc}
 use lib.ListN.{length, length-append}
 use lib.IntN.{ℤ}
 use Rattle.cbf_walk.specs.Reading.{good, flat, Good}
-use Rattle.cbf_walk.specs.Edits.{nth, start, edit, sections as items, exchange, exchangeBoth, outside}
+use Rattle.cbf_walk.specs.Edits.{nth, start, edit, sections as items, exchange, exchangeBoth}
 use Rattle.cbf_walk.proofs.EditLaws.{Plain, Section as Sectional, by-items, nth-in, nth-same, nth-other, start-before, start-past, apart, edit-good, edit-comm}
-use Rattle.cbf_walk.proofs.OrderLaws.{edit-exchange, edits-exchange, edits-outside}
+use Rattle.cbf_walk.proofs.OrderLaws.{SameOutsideBoth, edit-exchange, edits-exchange, edits-outside}
 use Rattle.cbf_pixels.specs.Pixels.{packByteOffset}
 use Rattle.cbf_pixels.proofs.Bounds.{packed-bounds}
 use Rattle.cbf_format.specs.Descriptions.{Description}
@@ -197,8 +197,8 @@ pub record ReadBoth (limit : ℕ) (file : List ℕ) (i : ℕ) (p : Placed) (os :
   pub second : Placed
   pub is-second : numbered j (sections 0 tree) ≡ some second
   pub second-section : second .section ≡ housedSection os′ (q .section)
-  pub outside-same : outside (ltb i j) (replacedBoth file i p os j q os′) (first .boundary) (first .section .width) (second .boundary) (second .section .width)
-      ≡ outside (ltb i j) file (p .boundary) (p .section .width) (q .boundary) (q .section .width)
+  pub outside-same : SameOutsideBoth (ltb i j) file (p .boundary) (p .section .width) (q .boundary) (q .section .width)
+      (replacedBoth file i p os j q os′) (first .boundary) (first .section .width) (second .boundary) (second .section .width)
 
 -- two replacements in either order give one file, and what is read of it
 pub record Orders (limit : ℕ) (file : List ℕ) (i : ℕ) (p : Placed) (os : List ℕ) (j : ℕ) (q : Placed) (os′ : List ℕ) : Type 0 where
@@ -272,14 +272,16 @@ orders limit file its (suc i) p os (suc j) q os′ h r d e e′ f f′ =
         ∙ (λ k. exchangeBoth (sym (leb·suc-suc (suc i) j) k) (a .whole k) (at .1 k) (p .section .width) (house (p .section .description) os) (at′ .1 k) (q .section .width)
         (house (q .section .description) os′))
 
-    kept : outside (ltb (suc i) (suc j)) both (start i tree) (length (house (p .section .description) os)) (start j tree) (length (house (q .section .description) os′))
-        ≡ outside (ltb (suc i) (suc j)) file (p .boundary) (p .section .width) (q .boundary) (q .section .width)
+    kept : SameOutsideBoth (ltb (suc i) (suc j)) file (p .boundary) (p .section .width) (q .boundary) (q .section .width)
+        both (start i tree) (length (span os (p .section))) (start j tree) (length (span os′ (q .section)))
     kept =
         let a = accepted limit file its r in
         let b = leb·suc-suc (suc i) j in
-        (λ k. outside (b k) (sym whole k) (start i tree) (length (house (p .section .description) os)) (start j tree) (length (house (q .section .description) os′)))
-        ∙ edits-outside width (span os) (housedSection os) (span os′) (housedSection os′) its i j (p .section) (q .section) differ (at .0) (at′ .0) (accepted-spans limit file its a)
-        ∙ (λ k. outside (sym b k) (a .whole k) (at .1 k) (p .section .width) (at′ .1 k) (q .section .width))
+        coe 0 1
+        (k. SameOutsideBoth (sym b k) (a .whole k) (at .1 k) (p .section .width) (at′ .1 k) (q .section .width)
+        (whole k) (start i tree) (length (span os (p .section))) (start j tree) (length (span os′ (q .section))))
+        (edits-outside width (span os) (housedSection os) (span os′) (housedSection os′) its i j (p .section) (q .section)
+        differ (at .0) (at′ .0) (accepted-spans limit file its a))
 
     there : nth i (replacedTree j os′ its) ≡ some (p .section)
     there = nth-other width (span os′) (housedSection os′) its i j differ ∙ at .0

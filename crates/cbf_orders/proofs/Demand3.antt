@@ -5,12 +5,13 @@ use mathlib.Core.Bool.{Bool, true, false, cond}
 use mathlib.Core.List.{List}
 use Prim.Native.Nat.{ℕ, _≤_}
 use native.Mathlib.Omega.{arith}
-use lib.Dec.{leb}
+use lib.Dec.{leb, ltb}
 use borrow.Author.Tests.{leb-true, le-leb, lt-leb, eqb-true}
 use lib.ListN.{length, take, drop}
 use lib.Seq.{take-at}
 use lib.IntN.{ℤ}
 use Rattle.cbf_walk.specs.Reading.{good}
+use Rattle.cbf_walk.proofs.OrderLaws.{SameOutsideBoth}
 use Rattle.cbf_pixels.specs.Octets.{pick}
 use Rattle.cbf_pixels.specs.Pixels.{least, greatest, allWithin, packByteOffset, unpackByteOffset}
 use Rattle.cbf_pixels.specs.Answers.{Outcome, gives, refuses, written, isSome, pixelsOf, unpackPixels, octetLimit}
@@ -25,11 +26,12 @@ use Rattle.cbf_format.specs.Listing.{Placed, sections, numbered}
 use Rattle.cbf_format.specs.House.{housedSection}
 use Rattle.cbf_format.proofs.LineTame.{and-true}
 use Rattle.cbf_format.proofs.ReplacementLaws.{SpanAt, span-at, packed-fits, Next, Orders, orders}
-use Rattle.cbf_sections.specs.SectionCalls.{found, frameOf, frameFor, frameOutcome, framePixels}
-use Rattle.cbf_sections.proofs.SectionCallLaws.{asked-found}
+use Rattle.cbf_sections.specs.SectionCalls.{value, orMissing, sectionOf, frameOf, frameFor, frameOutcome, framePixels}
+use Rattle.cbf_sections.proofs.SectionCallLaws.{section-answer}
 use Rattle.cbf_write.specs.Rooms.{roomFor}
 use Rattle.cbf_replace.specs.ReplaceCalls.{frameFits, roomForFile, replacePacked, replaceFitting, replaceOutcome, replacedBy}
-use Rattle.cbf_orders.specs.Orders.{replaceCall, newFile, OrderOutcome, secondCall, orderOf, secondWritten, Premises, Room, CallSays, SecondSays, ReadsBack, one, both, TwoOrders}
+use Rattle.cbf_orders.specs.Orders.{replaceCall, replacementOf, OrderOutcome, secondCall, orderOf, secondWritten}
+use Rattle.cbf_orders.specs.Orders.{Premises, Room, CallSays, SecondSays, ReadsBack, SpansKeptFrom, one, both, TwoOrders}
 
 -- ---- one call
 
@@ -46,8 +48,8 @@ unfolding frameFits
 counted d frame e = let a = and-true _ (allWithin (least (d .type)) (greatest (d .type)) frame) e in (eqb-true (length frame) (d .elements) (a .0), a .1)
 
 module _ {file : List ℕ} {n : ℕ} {p : Placed} {frame : List ℤ} (c : Fitting file n p frame) where
-  here : found (read lineLimit file) n ≡ some p
-  here = ap (λ (r : _). found r n) (c .accepted) ∙ c .is-at
+  here : sectionOf (read lineLimit file) n ≡ value p
+  here = ap (λ (r : _). sectionOf r n) (c .accepted) ∙ ap orMissing (c .is-at)
 
   known : SpanAt file p
   known = span-at lineLimit n file (c .tree) p (c .accepted) (c .is-at)
@@ -59,9 +61,9 @@ module _ {file : List ℕ} {n : ℕ} {p : Placed} {frame : List ℤ} (c : Fittin
   pub call-answer : (room : ℕ) → replaceCall file n frame room ≡ roomForFile (one file p frame) room
   unfolding replaceOutcome replaceFitting replacePacked
   call-answer room =
-      asked-found (read lineLimit file) n p _ here ∙ rw (c .binary, c .fits, le-leb (length (packByteOffset frame)) octetLimit few) refl
+      section-answer p _ here ∙ rw (c .binary, c .fits, le-leb (length (packByteOffset frame)) octetLimit few) refl
 
-  pub call-file : newFile file n frame ≡ one file p frame
+  pub call-file : replacementOf file n frame ≡ one file p frame
   unfolding replacedBy
   call-file = rw here refl
 
@@ -110,7 +112,7 @@ module _ (file : List ℕ) (i : ℕ) (f : List ℤ) (p : Placed) (j : ℕ) (g : 
   abbrev order : OrderOutcome
   order = orderOf file i f j g (length oi) (length oij)
 
-  pub first-says : CallSays (one file p f) (order .first) oi (written (replaceCall file i f (length oi)) (newFile file i f) oi)
+  pub first-says : CallSays (one file p f) (order .first) oi (written (replaceCall file i f (length oi)) (replacementOf file i f) oi)
   first-says =
       call-says (one file p f) oi (call-answer c (length oi))
       (λ k. written (call-answer c (length oi) k) (call-file c k) oi)
@@ -119,7 +121,7 @@ module _ (file : List ℕ) (i : ℕ) (f : List ℤ) (p : Placed) (j : ℕ) (g : 
       → order .second ≡ secondCall o (one file p f) j g (length oij)
   second-is o e = λ k. secondCall (e k) (call-file c k) j g (length oij)
 
-  pub second-says : SecondSays (one file p f) oi all (order .second) oij (secondWritten (order .second) (newFile (newFile file i f) j g) oij)
+  pub second-says : SecondSays (one file p f) oi all (order .second) oij (secondWritten (order .second) (replacementOf (replacementOf file i f) j g) oij)
   second-says =
       record {
         made = λ r.
@@ -127,14 +129,14 @@ module _ (file : List ℕ) (i : ℕ) (f : List ℤ) (p : Placed) (j : ℕ) (g : 
             let y = next-fitting d x in
             let e = second-is (gives (length (one file p f))) (call-answer c (length oi) ∙ has-room (one file p f) oi r) in
             let a = call-answer y (length oij) ∙ ap (λ (z : List ℕ). roomForFile z (length oij)) (x .gives) in
-            let new : newFile (newFile file i f) j g ≡ all = ap (λ (z : List ℕ). newFile z j g) (call-file c) ∙ call-file y ∙ x .gives in (
+            let new : replacementOf (replacementOf file i f) j g ≡ all = ap (λ (z : List ℕ). replacementOf z j g) (call-file c) ∙ call-file y ∙ x .gives in (
               replaceCall (one file p f) j g (length oij),
               e,
               call-says all oij a (λ k. secondWritten ((e ∙ ap some a) k) (new k) oij),
             );
         not-made = λ h.
             let e = second-is (refuses 15 0) (call-answer c (length oi) ∙ no-room (one file p f) oi h) in
-            (e, λ k. secondWritten (e k) (newFile (newFile file i f) j g) oij);
+            (e, λ k. secondWritten (e k) (replacementOf (replacementOf file i f) j g) oij);
       }
 
 -- a file that was given is at the front of its output
@@ -166,8 +168,8 @@ reads-back file n frame i tree p r e s f =
       too-little = λ room h. answer room ∙ rw (lt-leb (length frame) room h) refl;
     }
   where
-    at : found (read lineLimit file) n ≡ some p
-    at = ap (λ (x : _). found x n) r ∙ e
+    at : sectionOf (read lineLimit file) n ≡ value p
+    at = ap (λ (x : _). sectionOf x n) r ∙ ap orMissing e
 
     count : length frame ≡ i .description .elements
     count = counted (i .description) frame f .0
@@ -179,7 +181,19 @@ reads-back file n frame i tree p r e s f =
     elements = ap (λ (z : Section). z .description .elements) s ∙ sym count
 
     answer : (room : ℕ) → frameOutcome (read lineLimit file) n room ≡ pick (leb (length frame) room) (gives (length frame)) (refuses 15 0)
-    answer room = asked-found (read lineLimit file) n p (λ x. frameFor x room) at ∙ rw (unpacks, elements) refl
+    answer room = section-answer p (λ x. frameFor x room) at ∙ rw (unpacks, elements) refl
+
+-- ---- outside the spans
+
+-- what the two exchanges leave as it is, said of the sections
+spans-kept : (b : Bool) (file new : List ℕ) (p q p′ q′ : Placed)
+    → SameOutsideBoth b file (p .boundary) (p .section .width) (q .boundary) (q .section .width)
+    new (p′ .boundary) (p′ .section .width) (q′ .boundary) (q′ .section .width)
+    → SpansKeptFrom b file p q new p′ q′
+spans-kept true file new p q p′ q′ s =
+    record { in-order = s .in-order; new-order = s .new-order; before = s .before; between = s .between; behind = s .behind }
+spans-kept false file new p q p′ q′ s =
+    record { in-order = s .in-order; new-order = s .new-order; before = s .before; between = s .between; behind = s .behind }
 
 -- ---- the demand
 
@@ -209,10 +223,10 @@ module _ (file : List ℕ) (i : ℕ) (f : List ℤ) (j : ℕ) (g : List ℤ) (h 
       → let ij = orderOf file i f j g (length oi) (length oij) in
       let ji = orderOf file j g i f (length oj) (length oji) in
       TwoOrders file i f p j g q ij ji
-      oi (written (replaceCall file i f (length oi)) (newFile file i f) oi)
-      oij (secondWritten (ij .second) (newFile (newFile file i f) j g) oij)
-      oj (written (replaceCall file j g (length oj)) (newFile file j g) oj)
-      oji (secondWritten (ji .second) (newFile (newFile file j g) i f) oji)
+      oi (written (replaceCall file i f (length oi)) (replacementOf file i f) oi)
+      oij (secondWritten (ij .second) (replacementOf (replacementOf file i f) j g) oij)
+      oj (written (replaceCall file j g (length oj)) (replacementOf file j g) oj)
+      oji (secondWritten (ji .second) (replacementOf (replacementOf file j g) i f) oji)
   demand-3 oi oij oj oji =
       let s = second-says file i f p j g q all oi oij fitting-i fitting-j (either .first-then) in
       let t = second-says file j g q i f p all oj oji fitting-j fitting-i (either .second-then) in
@@ -226,5 +240,13 @@ module _ (file : List ℕ) (i : ℕ) (f : List ℤ) (j : ℕ) (g : List ℤ) (h 
         reads-j = λ l. let r = either .read-both l in reads-back all j g (q .section) (r .tree) (r .second) (r .reads) (r .is-second) (r .second-section) (h .fits-j);
         outside-kept = λ l.
             let r = either .read-both l in
-            record { tree = r .tree; accepted = r .reads; new-i = r .first; is-i = r .is-first; new-j = r .second; is-j = r .is-second; same = r .outside-same };
+            record {
+              tree = r .tree;
+              accepted = r .reads;
+              new-i = r .first;
+              is-i = r .is-first;
+              new-j = r .second;
+              is-j = r .is-second;
+              kept = spans-kept (ltb i j) file all p q (r .first) (r .second) (r .outside-same);
+            };
       }

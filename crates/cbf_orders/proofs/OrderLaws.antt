@@ -21,10 +21,10 @@ use Rattle.cbf_format.specs.Sections.{fileLimit, Section}
 use Rattle.cbf_format.specs.Files.{State, read}
 use Rattle.cbf_format.specs.Listing.{Placed, sections, numbered}
 use Rattle.cbf_format.specs.House.{replacedFile}
-use Rattle.cbf_sections.specs.SectionCalls.{askedOf}
+use Rattle.cbf_sections.specs.SectionCalls.{orMissing, sectionOf, sectionOutcome}
 use Rattle.cbf_write.specs.Rooms.{roomFor}
 use Rattle.cbf_replace.specs.ReplaceCalls as C
-use Rattle.cbf_orders.specs.Orders.{replaceCall, newFile, OrderOutcome, secondCall, orderOf, secondWritten, OrderSays, Premises, TwoOrders}
+use Rattle.cbf_orders.specs.Orders.{replaceCall, replacementOf, OrderOutcome, secondCall, orderOf, secondWritten, OrderSays, Premises, TwoOrders}
 use Rattle.cbf_orders.proofs.Demand3.{demand-3}
 
 -- ---- a call that gave a file
@@ -50,7 +50,7 @@ module _ (new : List ℕ) (room : ℕ) where
       go true q n e = let w : length new ≡ n = cc in (sym w, omega (arith, leb-true (length new) room q))
       go false q n e = no-answer 15 0 n e
 
-bounded : (file : List ℕ) (n : ℕ) (frame : List ℤ) (room : ℕ) → Bounded (newFile file n frame) room (replaceCall file n frame room)
+bounded : (file : List ℕ) (n : ℕ) (frame : List ℤ) (room : ℕ) → Bounded (replacementOf file n frame) room (replaceCall file n frame room)
 unfolding C.replaceOutcome C.replacedBy C.replaceFitting C.replacePacked C.roomForFile
 bounded file n frame room = go (read lineLimit file)
   where
@@ -63,13 +63,13 @@ bounded file n frame room = go (read lineLimit file)
     for p Base64 = no-answer (replacedFile file p (packByteOffset frame)) room 18 0
 
     go : (r : Reading (Item State Section)) → Bounded (C.replacedBy file r n frame) room (C.replaceOutcome file r n frame room)
-    go (refused k p) = no-answer (C.newFile file none frame) room k p
+    go (refused k p) = no-answer (C.newFile file (sectionOf (refused k p) n) frame) room k p
     go (good its) = by (numbered n (sections 0 its))
       where
         by : (o : Option Placed)
-            → Bounded (C.newFile file o frame) room
-            (askedOf (good its) o (λ p. let d = p .section .description in C.replaceFor (d .encoding) d frame (replacedFile file p (packByteOffset frame)) room))
-        by none = no-answer (C.newFile file none frame) room 12 0
+            → Bounded (C.newFile file (orMissing o) frame) room
+            (sectionOutcome (orMissing o) (λ p. let d = p .section .description in C.replaceFor (d .encoding) d frame (replacedFile file p (packByteOffset frame)) room))
+        by none = no-answer (C.newFile file (orMissing none) frame) room 12 0
         by (some p) = for p (p .section .description .encoding)
 
 -- the file is at the front of the output
@@ -78,11 +78,11 @@ pub record Given (new out : List ℕ) (n : ℕ) : Type 0 where
   pub front : take n out ≡ new
 
 pub given-file : (file : List ℕ) (i : ℕ) (f : List ℤ) (old : List ℕ) {out : List ℕ} {n : ℕ} → replaceCall file i f (length old) ≡ gives n
-    → out ≡ written (replaceCall file i f (length old)) (newFile file i f) old → Given (newFile file i f) out n
+    → out ≡ written (replaceCall file i f (length old)) (replacementOf file i f) old → Given (replacementOf file i f) out n
 unfolding written
 given-file file i f old {out} {n} e q =
     let b = bounded file i f (length old) n e in
-    let new = newFile file i f in
+    let new = replacementOf file i f in
     let w : out ≡ new ++ drop n old = q ∙ ap (λ (o : Outcome). written o new old) e in
     record {
       fits = omega (arith, ap length w, length-append new (drop n old), length-drop n old);
@@ -92,29 +92,29 @@ given-file file i f old {out} {n} e q =
 -- ---- both calls
 
 module _ (file : List ℕ) (i : ℕ) (f : List ℤ) (j : ℕ) (g : List ℤ) (oi oij : List ℕ) where
-  module _ {oi′ : List ℕ} (wrote : oi′ ≡ written (replaceCall file i f (length oi)) (newFile file i f) oi) where
+  module _ {oi′ : List ℕ} (wrote : oi′ ≡ written (replaceCall file i f (length oi)) (replacementOf file i f) oi) where
     second-is : {x : Outcome} → x ≡ replaceCall file i f (length oi)
-        → secondCall x (newFile file i f) j g (length oij) ≡ orderOf file i f j g (length oi) (length oij) .second
-    second-is e = λ z. secondCall (e z) (newFile file i f) j g (length oij)
+        → secondCall x (replacementOf file i f) j g (length oij) ≡ orderOf file i f j g (length oi) (length oij) .second
+    second-is e = λ z. secondCall (e z) (replacementOf file i f) j g (length oij)
 
     pub order-refused : (k p : ℕ) → refuses k p ≡ replaceCall file i f (length oi) → OrderSays file i f j g (record { first = refuses k p; second = none }) oi oi′ oij oij
     order-refused k p e =
         let s = second-is e in
-        record { answers = λ z. record { first = e z; second = s z }; first-output = wrote; second-output = λ z. secondWritten (s z) (newFile (newFile file i f) j g) oij }
+        record { answers = λ z. record { first = e z; second = s z }; first-output = wrote; second-output = λ z. secondWritten (s z) (replacementOf (replacementOf file i f) j g) oij }
 
     pub order-made : (n : ℕ) {x : Outcome} {oij′ : List ℕ} → gives n ≡ replaceCall file i f (length oi)
         → x ≡ replaceCall (take n oi′) j g (length oij)
-        → oij′ ≡ written (replaceCall (take n oi′) j g (length oij)) (newFile (take n oi′) j g) oij
+        → oij′ ≡ written (replaceCall (take n oi′) j g (length oij)) (replacementOf (take n oi′) j g) oij
         → OrderSays file i f j g (record { first = gives n; second = some x }) oi oi′ oij oij′
     order-made n {x} {oij′} e a b =
         let w = given-file file i f oi (sym e) wrote .front in
-        let y : x ≡ replaceCall (newFile file i f) j g (length oij) = a ∙ ap (λ (z : List ℕ). replaceCall z j g (length oij)) w in
+        let y : x ≡ replaceCall (replacementOf file i f) j g (length oij) = a ∙ ap (λ (z : List ℕ). replaceCall z j g (length oij)) w in
         let s : some x ≡ orderOf file i f j g (length oi) (length oij) .second = ap some y ∙ second-is e in
         record {
           answers = λ z. record { first = e z; second = s z };
           first-output = wrote;
-          second-output = b ∙ (λ z. written (replaceCall (w z) j g (length oij)) (newFile (w z) j g) oij)
-              ∙ (λ z. secondWritten (second-is e z) (newFile (newFile file i f) j g) oij);
+          second-output = b ∙ (λ z. written (replaceCall (w z) j g (length oij)) (replacementOf (w z) j g) oij)
+              ∙ (λ z. secondWritten (second-is e z) (replacementOf (replacementOf file i f) j g) oij);
         }
 
 -- ---- both orders

@@ -3,14 +3,14 @@
 use mathlib.Core.Path.{_≡_}
 use mathlib.Core.Logic.{_≢_}
 use mathlib.Core.Option.{Option, none, some}
-use mathlib.Core.Bool.{true}
+use mathlib.Core.Bool.{Bool, true, false}
 use mathlib.Core.List.{List, _++_}
-use Prim.Native.Nat.{ℕ, _≤_, _<_}
+use Prim.Native.Nat.{ℕ, _+_, _≤_, _<_}
 use lib.Dec.{ltb}
 use lib.ListN.{length, take, drop}
+use lib.Seq.{slice}
 use lib.IntN.{ℤ}
 use Rattle.cbf_walk.specs.Reading.{good}
-use Rattle.cbf_walk.specs.Edits.{outside}
 use Rattle.cbf_pixels.specs.Pixels.{packByteOffset}
 use Rattle.cbf_pixels.specs.Answers.{Outcome, gives, refuses, outcome, written}
 use Rattle.cbf_format.specs.declared.Encoding.the-variants.{Binary}
@@ -31,8 +31,8 @@ use Rattle.cbf_orders.specs.declared.Order.{Order}
 abbrev pub replaceCall : List ℕ → ℕ → List ℤ → ℕ → Outcome
 replaceCall file n frame room = replaceOutcome file (read lineLimit file) n frame room
 
-abbrev pub newFile : List ℕ → ℕ → List ℤ → List ℕ
-newFile file n frame = replacedBy file (read lineLimit file) n frame
+abbrev pub replacementOf : List ℕ → ℕ → List ℤ → List ℕ
+replacementOf file n frame = replacedBy file (read lineLimit file) n frame
 
 -- the outcomes of the two calls of an order; the second call may not be made
 pub record OrderOutcome : Type 0 where
@@ -54,7 +54,7 @@ secondCall (refuses k p) file j g room = none
 
 abbrev pub orderOf : List ℕ → ℕ → List ℤ → ℕ → List ℤ → ℕ → ℕ → OrderOutcome
 orderOf file i f j g room room′ =
-    let o = replaceCall file i f room in record { first = o; second = secondCall o (newFile file i f) j g room′ }
+    let o = replaceCall file i f room in record { first = o; second = secondCall o (replacementOf file i f) j g room′ }
 
 -- what is then in the output of the second call
 abbrev pub secondWritten : Option Outcome → List ℕ → List ℕ → List ℕ
@@ -64,8 +64,8 @@ secondWritten (some o) new old = written o new old
 -- the outcomes of the two calls of an order, and what is then in their outputs, for every input
 pub record OrderSays (file : List ℕ) (i : ℕ) (f : List ℤ) (j : ℕ) (g : List ℤ) (order : OrderOutcome) (oi oi′ oij oij′ : List ℕ) : Type 0 where
   pub answers : order ≡ orderOf file i f j g (length oi) (length oij)
-  pub first-output : oi′ ≡ written (replaceCall file i f (length oi)) (newFile file i f) oi
-  pub second-output : oij′ ≡ secondWritten (orderOf file i f j g (length oi) (length oij) .second) (newFile (newFile file i f) j g) oij
+  pub first-output : oi′ ≡ written (replaceCall file i f (length oi)) (replacementOf file i f) oi
+  pub second-output : oij′ ≡ secondWritten (orderOf file i f j g (length oi) (length oij) .second) (replacementOf (replacementOf file i f) j g) oij
 
 -- ---- the premises
 
@@ -105,7 +105,25 @@ pub record ReadsBack (file : List ℕ) (n : ℕ) (frame : List ℤ) : Type 0 whe
   pub unpacked : (room : ℕ) → length frame ≤ room → frameOutcome (read lineLimit file) n room ≡ gives (length frame)
   pub too-little : (room : ℕ) → room < length frame → frameOutcome (read lineLimit file) n room ≡ refuses 15 0
 
--- every byte outside the two spans, where they stand in the new file, is the original, in the original order
+-- the place after the span of a section
+abbrev pub spanEnd : Placed → ℕ
+spanEnd p = p .boundary + p .section .width
+
+-- the spans of p and q stand in this order and apart, and so do those of p′ and q′ in the new file; every byte before, between
+-- and behind them is the original
+pub record SpansKept (file : List ℕ) (p q : Placed) (new : List ℕ) (p′ q′ : Placed) : Type 0 where
+  pub in-order : spanEnd p ≤ q .boundary
+  pub new-order : spanEnd p′ ≤ q′ .boundary
+  pub before : take (p′ .boundary) new ≡ take (p .boundary) file
+  pub between : slice (spanEnd p′) (q′ .boundary) new ≡ slice (spanEnd p) (q .boundary) file
+  pub behind : drop (spanEnd q′) new ≡ drop (spanEnd q) file
+
+-- the section with the lower number stands first: `b` says that it is the one of p
+abbrev pub SpansKeptFrom : Bool → List ℕ → Placed → Placed → List ℕ → Placed → Placed → Type 0
+SpansKeptFrom true file p q new p′ q′ = SpansKept file p q new p′ q′
+SpansKeptFrom false file p q new p′ q′ = SpansKept file q p new q′ p′
+
+-- every byte outside the two spans, where they stand in the new file, is the original
 pub record OutsideKept (file : List ℕ) (i : ℕ) (p : Placed) (j : ℕ) (q : Placed) (new : List ℕ) : Type 0 where
   pub tree : Tree
   pub accepted : read lineLimit new ≡ good tree
@@ -113,8 +131,7 @@ pub record OutsideKept (file : List ℕ) (i : ℕ) (p : Placed) (j : ℕ) (q : P
   pub is-i : numbered i (sections 0 tree) ≡ some new-i
   pub new-j : Placed
   pub is-j : numbered j (sections 0 tree) ≡ some new-j
-  pub same : outside (ltb i j) new (new-i .boundary) (new-i .section .width) (new-j .boundary) (new-j .section .width)
-      ≡ outside (ltb i j) file (p .boundary) (p .section .width) (q .boundary) (q .section .width)
+  pub kept : SpansKeptFrom (ltb i j) file p q new new-i new-j
 
 -- the file with section i replaced; the one with both: "the original with each of the two spans exchanged for its section's house form with the new frame"
 abbrev pub one : List ℕ → Placed → List ℤ → List ℕ

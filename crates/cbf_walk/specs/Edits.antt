@@ -87,13 +87,3 @@ unfoldable pub exchangeBoth : Bool → List ℕ → ℕ → ℕ → List ℕ →
 unfolding exchangeTwo
 exchangeBoth true file p k n p′ k′ n′ = exchangeTwo file p k n p′ k′ n′
 exchangeBoth false file p k n p′ k′ n′ = exchangeTwo file p′ k′ n′ p k n
-
--- the file without k bytes at p and, further on, without k′ bytes at p′
-unfoldable pub without : List ℕ → ℕ → ℕ → ℕ → ℕ → List ℕ
-without file p k p′ k′ = take p file ++ (slice (p + k) p′ file ++ drop (p′ + k′) file)
-
--- the same, whichever of the two stands first
-unfoldable pub outside : Bool → List ℕ → ℕ → ℕ → ℕ → ℕ → List ℕ
-unfolding without
-outside true file p k p′ k′ = without file p k p′ k′
-outside false file p k p′ k′ = without file p′ k′ p k

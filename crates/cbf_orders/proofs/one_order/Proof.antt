@@ -4,7 +4,7 @@ use denote.Ref.{now}
 use borrow.Author.Needs.{needs}
 use lib.Seq.{length-take-le}
 use Rattle.cbf_pixels.specs.Answers.{outcome}
-use Rattle.cbf_orders.specs.Orders.{newFile}
+use Rattle.cbf_orders.specs.Orders.{replacementOf}
 use Rattle.cbf_orders.proofs.OrderLaws.{Given, given-file, order-refused, order-made}
 use Rattle.cbf_orders.proofs.one_order.Statement.{statement}
 use Rattle.cbf_orders.proofs.one_order.Tie as tie
@@ -16,7 +16,7 @@ start m = m .before .before .before .before .before
 given : (b : tie.After-first2)
     → let m = b .before .before .before .before in
     let a = start m .args in
-    Given (newFile (now (a .file)) (a .i) (now (a .f))) (m .replace .last .1 .1 .1 .1 .0) (b .first2 .given .0 .0)
+    Given (replacementOf (now (a .file)) (a .i) (now (a .f))) (m .replace .last .1 .1 .1 .1 .0) (b .first2 .given .0 .0)
 given b =
     let m = b .before .before .before .before in
     let a = start m .args in
