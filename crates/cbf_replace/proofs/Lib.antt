@@ -2,4 +2,5 @@
 pub mod HeadLaws
 pub mod NewFileLaws
 pub mod ReplaceLaws
+pub mod EnoughRoom
 pub mod Examples
