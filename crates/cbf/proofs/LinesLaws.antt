@@ -56,7 +56,7 @@ module _ {file : List ℕ} {p : Placed} {s : Section} (is : SectionOf file p s) 
   line-is : lineFor file n s ≡ sectionLine n p
   line-is =
       let d = p .section .description in
-      ap (lineFor file n) (is .fields) ∙ ap (sectionText n (position p) (d .size) (d .elements) (d .compression) (d .type)) (is .block)
+      ap (lineFor file n) (is .fields) ∙ ap (sectionText n (position p) (d .size) (d .elements) (d .compression) (d .kind)) (is .block)
 
   line-short : length file ≤ S.fileLimit → length (lineFor file n s) ≤ 2147483648
   line-short h =

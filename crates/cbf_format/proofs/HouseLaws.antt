@@ -1,9 +1,9 @@
 -- The headers of house form are read as what they were written from. Assumes nothing.
 use mathlib.Core.Path.{_≡_, refl, ap, _∙_}
-use mathlib.Core.Option.{Option, none, some}
+use mathlib.Core.Option.{Option, none, some, Option·getD}
 use mathlib.Core.Bool.{Bool, true, false}
 use mathlib.Core.List.{List, [], _∷_, _++_}
-use Prim.Native.Nat.{ℕ, suc, _+_, _*_, _≤_, _<_}
+use Prim.Native.Nat.{ℕ, zero, suc, _+_, _*_, _≤_, _<_}
 use native.Mathlib.Omega.{arith}
 use lib.Dec.{leb, ltb, eqb}
 use borrow.Author.Tests.{le-leb, leb-true, ltb-true, eq-eqb}
@@ -11,17 +11,22 @@ use lib.ListN.{length}
 use Rattle.cbf_walk.specs.Parsers.{ok}
 use Rattle.cbf_pixels.specs.declared.ElementType.{ElementType}
 use Rattle.cbf_pixels.specs.declared.ElementType.the-variants.{U8, S8, U16, S16, U32, S32}
+use Rattle.cbf_pixels.specs.declared.Compression.the-variants.{ByteOffset}
+use Rattle.cbf_format.specs.declared.Encoding.the-variants.{Binary}
 use Rattle.cbf_format.specs.Text.{bytes, trim}
 use Rattle.cbf_format.specs.Lines.{refusedByte}
 use Rattle.cbf_format.specs.Headers.{splitColon, malformed, group}
 use Rattle.cbf_format.specs.declared.KnownHeader.{KnownHeader}
 use Rattle.cbf_format.specs.declared.KnownHeader.the-variants.{TransferEncoding, Size, Elements, ContentType, Kind, ByteOrder, Id, Fastest, Second, Third}
 use Rattle.cbf_format.specs.Values.{number, between, knownHeaders, named, typeWords, valueOf}
-use Rattle.cbf_format.specs.Descriptions.{Description, found, ordinal, sameHeader, look, judge, dimensionsAgree, typeOf, describes, verdictOf, verdict, concluded, headers}
+use Rattle.cbf_format.specs.declared.Description.{Description}
+use Rattle.cbf_format.specs.Descriptions.{found, ordinal, sameHeader, look, judge, dimensionsAgree, descriptionOf, description}
+use Rattle.cbf_format.specs.Descriptions.{optional, orZero, compressionOf, typeOf, described, orDisagrees, describes, verdictOf}
+use Rattle.cbf_format.specs.Descriptions.{verdict, concluded, headers}
 use Rattle.cbf_format.specs.Sections.{fileLimit}
 use Rattle.cbf_format.specs.Listing.{printed}
 use Rattle.cbf_format.specs.Catalogue.{typeNumber}
-use Rattle.cbf_format.specs.House.{endedLines, numberLine, houseLines, housed}
+use Rattle.cbf_format.specs.House.{endedLines, numberLine, houseLines}
 use Rattle.cbf_format.proofs.VerdictLaws.{Known}
 use Rattle.cbf_format.proofs.DecimalLaws.{decimal-printed, number-printed, refused-digits, trim-digits}
 use Rattle.cbf_format.proofs.HeaderLaws.{AllWritten, placed, headerLines-ended, Gives, Say, say-none, say-line}
@@ -94,10 +99,10 @@ module _ (k : KnownHeader) (least most : ℕ) (name : List ℕ) (names : Names k
       → Say longest lines ls ((k, n) ∷ before) after → Say longest (suc lines) ((start name ++ printed n) ∷ ls) before after
   say-number {n} l h e s = say-line (gives-number n l h) e s
 
-  say-optional : (o : Option ℕ) {lines : ℕ} {ls : List (List ℕ)} {before after : List (KnownHeader × ℕ)} → ((n : ℕ) → o ≡ some n → (least ≤ n) × (n ≤ most)) → look k before ≡ none
-      → Say longest lines ls (adding k o before) after → Say longest (suc lines) (numberLine (start name) o ls) before after
-  say-optional none h e s = record { few = omega arith; written = s .written; whole = s .whole; judged = s .judged }
-  say-optional (some n) h e s = let b = h n refl in say-number (b .0) (b .1) e s
+  say-optional : (m : ℕ) {lines : ℕ} {ls : List (List ℕ)} {before after : List (KnownHeader × ℕ)} → least ≤ 1 → m ≤ most → look k before ≡ none
+      → Say longest lines ls (adding k (optional m) before) after → Say longest (suc lines) (numberLine (start name) (optional m) ls) before after
+  say-optional zero l h e s = record { few = omega arith; written = s .written; whole = s .whole; judged = s .judged }
+  say-optional (suc n) l h e s = say-number (omega arith) h e s
 
 -- ---- the line with the type
 
@@ -105,7 +110,8 @@ gives-type : (t : ElementType) → Gives longest Kind (typeNumber t) (bytes "X-B
 gives-type t = gives Kind (typeNumber t) _ (bytes "X-Binary-Element-Type") (bytes " \"" ++ (typeWords t ++ bytes "\"")) (go t)
   where
     go : (t : ElementType)
-        → seen Kind (bytes "X-Binary-Element-Type: \"" ++ (typeWords t ++ bytes "\"")) (bytes "X-Binary-Element-Type") (bytes " \"" ++ (typeWords t ++ bytes "\""))
+        → seen Kind (bytes "X-Binary-Element-Type: \"" ++ (typeWords t ++ bytes "\"")) (bytes "X-Binary-Element-Type")
+        (bytes " \"" ++ (typeWords t ++ bytes "\""))
         ≡ (false, some (bytes "X-Binary-Element-Type", bytes " \"" ++ (typeWords t ++ bytes "\"")), some Kind, some (typeNumber t), none)
     go U8 = refl
     go S8 = refl
@@ -133,11 +139,11 @@ say-first h s = (
 -- what is found
 abbrev houseFound : ℕ → Description → List (KnownHeader × ℕ)
 houseFound size d =
-    adding Third (d .third)
-    (adding Second (d .second)
-    (adding Fastest (d .fastest)
-    ((Elements, d .elements) ∷ (ByteOrder, 1) ∷ (Kind, typeNumber (d .type))
-    ∷ adding Id (d .id) ((Size, size) ∷ (TransferEncoding, 0) ∷ (ContentType, 1) ∷ []))))
+    adding Third (optional (d .third))
+    (adding Second (optional (d .second))
+    (adding Fastest (optional (d .fastest))
+    ((Elements, d .elements) ∷ (ByteOrder, 1) ∷ (Kind, typeNumber (d .kind))
+    ∷ adding Id (optional (d .id)) ((Size, size) ∷ (TransferEncoding, 0) ∷ (ContentType, 1) ∷ []))))
 
 module _ (size : ℕ) (d : Description) (known : Known d) (fits : size ≤ 1_073_741_824) where
   say-house : SayAll (houseLines size d) (houseFound size d)
@@ -146,13 +152,13 @@ module _ (size : ℕ) (d : Description) (known : Known d) (fits : size ≤ 1_073
       say-first (omega arith)
       (say-line (gives TransferEncoding 0 _ (bytes "Content-Transfer-Encoding") (bytes " BINARY") refl) refl
       (say-number Size 0 1_073_741_824 (bytes "X-Binary-Size") (λ v. refl) (omega arith) fits refl
-      (say-optional Id 1 2_147_483_647 (bytes "X-Binary-ID") (λ v. refl) (d .id) (known .id-in) refl
-      (say-line (gives-type (d .type)) (simp look-other)
+      (say-optional Id 1 2_147_483_647 (bytes "X-Binary-ID") (λ v. refl) (d .id) (omega arith) (known .id-in) refl
+      (say-line (gives-type (d .kind)) (simp look-other)
       (say-line (gives ByteOrder 1 _ (bytes "X-Binary-Element-Byte-Order") (bytes " LITTLE_ENDIAN") refl) (simp look-other)
       (say-number Elements 0 67_108_864 (bytes "X-Binary-Number-of-Elements") (λ v. refl) (omega arith) (known .few) (simp look-other)
-      (say-optional Fastest 1 67_108_864 (bytes "X-Binary-Size-Fastest-Dimension") (λ v. refl) (d .fastest) (known .fastest-in) (simp look-other)
-      (say-optional Second 1 67_108_864 (bytes "X-Binary-Size-Second-Dimension") (λ v. refl) (d .second) (known .second-in) (simp look-other)
-      (say-optional Third 1 67_108_864 (bytes "X-Binary-Size-Third-Dimension") (λ v. refl) (d .third) (known .third-in) (simp look-other)
+      (say-optional Fastest 1 67_108_864 (bytes "X-Binary-Size-Fastest-Dimension") (λ v. refl) (d .fastest) (omega arith) (known .fastest-in) (simp look-other)
+      (say-optional Second 1 67_108_864 (bytes "X-Binary-Size-Second-Dimension") (λ v. refl) (d .second) (omega arith) (known .second-in) (simp look-other)
+      (say-optional Third 1 67_108_864 (bytes "X-Binary-Size-Third-Dimension") (λ v. refl) (d .third) (omega arith) (known .third-in) (simp look-other)
       (say-none longest (houseFound size d)))))))))))
 
 -- ---- what the headers say
@@ -165,10 +171,41 @@ type-numbered S16 = refl
 type-numbered U32 = refl
 type-numbered S32 = refl
 
-house-described : (size empty : ℕ) (d : Description) → d .elements ≤ size → size ≤ 15 * d .elements
-    → dimensionsAgree (d .fastest) (d .second) (d .third) (d .elements) ≡ true → verdictOf empty (found (houseFound size d)) ≡ describes (housed size d)
-house-described size empty d l h a =
-    simp (look-other, look-same, type-numbered) (rw (le-leb (d .elements) size l, le-leb size (15 * d .elements) h, a))
+optional-value : (n : ℕ) → orZero (optional n) ≡ n
+optional-value zero = refl
+optional-value (suc n) = refl
+
+-- what is read of house form with that many octets
+abbrev pub housed : ℕ → Description → Description
+housed size d = descriptionOf Binary size (d .elements) ByteOffset (d .kind) (d .id) (d .fastest) (d .second) (d .third)
+
+module _ (size : ℕ) (d : Description) where
+  abbrev all : List (KnownHeader × ℕ)
+  all = houseFound size d
+
+  house-said : description 0 size (d .elements) all ≡ housed size d
+  house-said =
+      let c : look ContentType all ≡ some 1 = simp look-other in
+      let t : look Kind all ≡ some (typeNumber (d .kind)) = simp look-other in
+      let n : look Id all ≡ optional (d .id) = simp (look-other, look-same) in
+      let f : look Fastest all ≡ optional (d .fastest) = simp (look-other, look-same) in
+      let g : look Second all ≡ optional (d .second) = simp (look-other, look-same) in
+      let h : look Third all ≡ optional (d .third) = simp (look-other, look-same) in
+      λ i. descriptionOf Binary size (d .elements) (compressionOf (orZero (c i)))
+      ((ap (λ (o : Option ℕ). typeOf (Option·getD o 5)) t ∙ type-numbered (d .kind)) i)
+      ((ap orZero n ∙ optional-value (d .id)) i) ((ap orZero f ∙ optional-value (d .fastest)) i)
+      ((ap orZero g ∙ optional-value (d .second)) i) ((ap orZero h ∙ optional-value (d .third)) i)
+
+  house-described : (empty : ℕ) → d .elements ≤ size → size ≤ 15 * d .elements
+      → dimensionsAgree (optional (d .fastest)) (optional (d .second)) (optional (d .third)) (d .elements) ≡ true
+      → verdictOf empty (found all) ≡ describes (housed size d)
+  house-described empty l h a =
+      let e : look TransferEncoding all ≡ some 0 = simp look-other in
+      let n : look Size all ≡ some size = simp look-other in
+      let k : look Elements all ≡ some (d .elements) = simp look-other in
+      (λ i. described empty (e i) (n i) (k i) all)
+      ∙ ap (orDisagrees empty) house-said
+      ∙ rw (le-leb (d .elements) size l, le-leb size (15 * d .elements) h, a)
 
 -- the headers of house form
 pub headers-house : (limit size : ℕ) (d : Description) (r : List ℕ) → 48 ≤ limit → Known d → size ≤ 1_073_741_824 → d .elements ≤ size → size ≤ 15 * d .elements
@@ -177,4 +214,4 @@ unfolding headers verdict
 headers-house limit size d r m k fits low high =
     let s = say-house size d k fits in
     ap concluded (headerLines-ended longest limit fileLimit true 0 (houseLines size d) r m (s .0) (s .1))
-    ∙ rw (s .2) (rw (house-described size (0 + length (endedLines (houseLines size d))) d low high (k .agree)))
+    ∙ rw (s .2) (rw (house-described size d (0 + length (endedLines (houseLines size d))) low high (k .agree)))

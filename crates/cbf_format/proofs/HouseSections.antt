@@ -15,15 +15,27 @@ use Rattle.cbf_walk.specs.Edits.{Lawful}
 use Rattle.cbf_walk.proofs.ParserLaws.{bind-at, counted-ok}
 use Rattle.cbf_format.specs.Text.{textual}
 use Rattle.cbf_format.specs.Lines.{refusedByte, textLine, lineEnd, octets, word}
-use Rattle.cbf_format.specs.Descriptions.{Description, headers}
+use Rattle.cbf_format.specs.declared.Description.{Description}
+use Rattle.cbf_format.specs.Descriptions.{headers}
 use Rattle.cbf_format.specs.Sections.{opening, closing, marker, fileLimit, lastBoundary, afterSpan, closed, closedAfter, binaryData, Section, sectionOf, section}
 use Rattle.cbf_format.specs.Files.{Field, first-line, outside, opened, inside, State, afterSection, isOpened, stepLine, afterStepLine, step}
-use Rattle.cbf_format.specs.House.{ended, endedLines, houseLines, house, housed, housedSection}
+use Rattle.cbf_format.specs.House.{ended, endedLines, houseLines, house}
 use Rattle.cbf_format.proofs.LineTame.{octets-ok, word-ok}
 use Rattle.cbf_format.proofs.SectionTame.{closedWith, binaryOf, afterHeaders}
 use Rattle.cbf_format.proofs.FileLaws.{lineOf, Took, took}
 use Rattle.cbf_format.proofs.VerdictLaws.{Known}
-use Rattle.cbf_format.proofs.HouseLaws.{headers-house}
+use Rattle.cbf_format.proofs.HouseLaws.{housed, headers-house}
+
+-- the section that is read of house form, in place of the section i
+abbrev pub housedSection : List ℕ → Section → Section
+housedSection os i =
+    record {
+      description = housed (length os) (i .description);
+      octets = os;
+      first = length (ended opening) + length (endedLines (houseLines (length os) (i .description))) + 2 + length marker;
+      width = length (house (i .description) os);
+      block = i .block;
+    }
 
 -- octets that fit a section
 pub record Fits (d : Description) (os : List ℕ) : Type 0 where

@@ -132,7 +132,7 @@ sectionLines-short limit n (p ∷ ps) h =
     omega (
       arith,
       length-append (sectionLine n p) (sectionLines (suc n) ps),
-      sectionText-short n (position p) (d .size) (d .elements) (d .compression) (d .type) (p .section .block),
+      sectionText-short n (position p) (d .size) (d .elements) (d .compression) (d .kind) (p .section .block),
       sectionLines-short limit (suc n) ps (h .1),
       h .0,
     )

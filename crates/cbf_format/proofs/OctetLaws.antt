@@ -195,7 +195,8 @@ module _ {limit : ℕ} {file : List ℕ} {p : Placed} (d : DataAt limit file p) 
   few-elements = known (d .described .0) (p .section .description) (d .described .1) .few
 
   -- "uncompressed size = elements × octets per element"
-  pub whole-elements : p .section .description .compression ≡ Uncompressed → p .section .description .size ≡ p .section .description .elements * octetsPer (p .section .description .type)
+  pub whole-elements : p .section .description .compression ≡ Uncompressed
+      → p .section .description .size ≡ p .section .description .elements * octetsPer (p .section .description .kind)
   whole-elements e =
       let x = p .section .description in
-      eqb-true (x .size) (x .elements * octetsPer (x .type)) (rw e at (size-agrees (d .described .0) x (d .described .1)))
+      eqb-true (x .size) (x .elements * octetsPer (x .kind)) (rw e at (size-agrees (d .described .0) x (d .described .1)))

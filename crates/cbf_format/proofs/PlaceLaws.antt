@@ -20,7 +20,10 @@ use Rattle.cbf_format.specs.declared.KnownHeader.the-variants.{TransferE
 use Rattle.cbf_format.specs.Values.{knownHeaders, named, valueOf}
 use Rattle.cbf_format.specs.declared.Encoding.{Encoding}
 use Rattle.cbf_format.specs.declared.Encoding.the-variants.{Binary, Base64}
-use Rattle.cbf_format.specs.Descriptions.{Description, Judged, refused-at, found, look, put, judgeHeader, onward as judgedOn, judge, description, agrees, Verdict, refuses as refusesAt, describes, described, verdictOf, verdict, concludedBy, concluded, headers}
+use Rattle.cbf_format.specs.declared.Description.{Description}
+use Rattle.cbf_format.specs.Descriptions.{Judged, refused-at, found, look, put, judgeHeader, onward as judgedOn, judge, description}
+use Rattle.cbf_format.specs.Descriptions.{agrees, Verdict, refuses as refusesAt, describes, described, verdictOf, verdict}
+use Rattle.cbf_format.specs.Descriptions.{concludedBy, concluded, headers}
 use Rattle.cbf_format.specs.Base64.{symbol, isOther, refusedSymbol, Letters, addSymbols, refusedText, moreText, letters, decode, sized}
 use Rattle.cbf_format.specs.Sections.{closing, marker, fileLimit, closed, closedAfter, binaryData, goodText, blameAt, textClosed, base64Data, dataFor, Section, sectionOf, section}
 use Rattle.cbf_format.specs.Files.{identified, refusedFirst, Field, first-line, outside, opened, inside, State, start, due, afterLine, afterSection, isBoundary, oneTooMany, stepLine, sectionOr, afterStepLine, step, Tree, readSome, read}

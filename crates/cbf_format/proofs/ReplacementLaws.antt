@@ -15,15 +15,15 @@ use Rattle.cbf_walk.proofs.EditLaws.{Plain, Section as Sectional, by-items, nth
 use Rattle.cbf_walk.proofs.OrderLaws.{SameOutsideBoth, edit-exchange, edits-exchange, edits-outside}
 use Rattle.cbf_pixels.specs.Pixels.{packByteOffset}
 use Rattle.cbf_pixels.proofs.Bounds.{packed-bounds}
-use Rattle.cbf_format.specs.Descriptions.{Description}
+use Rattle.cbf_format.specs.declared.Description.{Description}
 use Rattle.cbf_format.specs.Sections.{fileLimit, Section}
 use Rattle.cbf_format.specs.Files.{due, step, Tree, read, start as beginning}
 use Rattle.cbf_format.specs.Listing.{Placed, sections, numbered}
-use Rattle.cbf_format.specs.House.{house, housedSection, replacedFile, replacedBoth}
+use Rattle.cbf_format.specs.House.{house, replacedFile, replacedBoth}
 use Rattle.cbf_format.proofs.FileLaws.{step-tame, accepted, accepts, accepted-spans}
 use Rattle.cbf_format.proofs.VerdictLaws.{Known, known}
 use Rattle.cbf_format.proofs.OctetLaws.{data-at}
-use Rattle.cbf_format.proofs.HouseSections.{Fits, house-lawful}
+use Rattle.cbf_format.proofs.HouseSections.{housedSection, Fits, house-lawful}
 
 -- ---- the section with a number, and its place
 

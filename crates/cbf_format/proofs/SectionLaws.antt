@@ -16,7 +16,8 @@ use Rattle.cbf_format.specs.Text.{same}
 use Rattle.cbf_format.specs.Lines.{lineOr, line, onlyEnd, lineEnd, octets, word, semicolon, semicolonLine}
 use Rattle.cbf_format.specs.declared.Encoding.{Encoding}
 use Rattle.cbf_format.specs.declared.Encoding.the-variants.{Binary, Base64}
-use Rattle.cbf_format.specs.Descriptions.{Description, headers}
+use Rattle.cbf_format.specs.declared.Description.{Description}
+use Rattle.cbf_format.specs.Descriptions.{headers}
 use Rattle.cbf_format.specs.Base64.{Letters, addSymbols, refusedText, moreText, letters}
 use Rattle.cbf_format.specs.Sections.{closing, marker, fileLimit, Data, lastBoundary, afterSpan, closed, closedAfter, binaryData, goodText, base64Data, dataFor, Section, sectionOf, section}
 use Rattle.cbf_format.proofs.LineTame.{unadd, line-pos, unoctets, same-eq}

@@ -11,7 +11,8 @@ use Rattle.cbf_format.specs.Lines.{line, lineEnd, octets, word, semicolo
 use Rattle.cbf_format.specs.Headers.{headerLine, HeaderLines, addLine, moreLines, headerLines}
 use Rattle.cbf_format.specs.declared.Encoding.{Encoding}
 use Rattle.cbf_format.specs.declared.Encoding.the-variants.{Binary, Base64}
-use Rattle.cbf_format.specs.Descriptions.{Description, Verdict, refuses, describes, verdict, concludedBy, concluded, headers}
+use Rattle.cbf_format.specs.declared.Description.{Description}
+use Rattle.cbf_format.specs.Descriptions.{Verdict, refuses, describes, verdict, concludedBy, concluded, headers}
 use Rattle.cbf_format.specs.Base64.{Letters, addSymbols, refusedText, moreText, letters, decode}
 use Rattle.cbf_format.specs.Sections.{closing, marker, fileLimit, Data, lastBoundary, afterSpan, closed, closedAfter, binaryData, goodText, decoded, blameAt, textClosed, base64Data, dataFor, Section, sectionOf, section}
 use Rattle.cbf_format.proofs.LineTame.{line-tame, lineEnd-tame, semicolonLine-tame, headerLine-tame, octets-tame, word-tame}

@@ -12,7 +12,10 @@ use Rattle.cbf_format.specs.Headers.{Header, HeaderLines, group}
 use Rattle.cbf_format.specs.declared.KnownHeader.{KnownHeader}
 use Rattle.cbf_format.specs.declared.KnownHeader.the-variants.{TransferEncoding, Size, Elements, ContentType, Kind, ByteOrder, Id, Fastest, Second, Third}
 use Rattle.cbf_format.specs.Values.{number, between, knownHeaders, named, valueOf}
-use Rattle.cbf_format.specs.Descriptions.{Description, Judged, refused-at, found, ordinal, sameHeader, look, put, judgeHeader, onward as judgedOn, judge, sizeAgrees, dimensionsAgree, description, agrees, Verdict, refuses, describes, described, verdictOf, verdict}
+use Rattle.cbf_format.specs.declared.Description.{Description}
+use Rattle.cbf_format.specs.Descriptions.{Judged, refused-at, found, ordinal, sameHeader, look, put, judgeHeader, onward as judgedOn}
+use Rattle.cbf_format.specs.Descriptions.{judge, sizeAgrees, dimensionsAgree, optional, orZero, description, agrees, Verdict, refuses}
+use Rattle.cbf_format.specs.Descriptions.{describes, described, verdictOf, verdict}
 use Rattle.cbf_format.proofs.LineTame.{and-true}
 
 -- ---- known headers that are the same
@@ -67,50 +70,54 @@ judge-valued (h ∷ hs) fs w = on (judgeHeader h (named knownHeaders (h .name)) 
     on (refused-at p) v ih = tt
     on (found r) v ih = ih r v
 
-between-in : (least most : ℕ) (o : Option ℕ) (n : ℕ) → between least most o ≡ some n → (least ≤ n) × (n ≤ most)
-between-in least most none n e = absurd (Option·none-ne-some n e)
-between-in least most (some m) n e = go (leb least m && leb m most) refl e
+between-most : (least most : ℕ) (o : Option ℕ) (n : ℕ) → between least most o ≡ some n → n ≤ most
+between-most least most none n e = absurd (Option·none-ne-some n e)
+between-most least most (some m) n e = go (leb least m && leb m most) refl e
   where
-    go : (b : Bool) → leb least m && leb m most ≡ b → cond b (some m) none ≡ some n → (least ≤ n) × (n ≤ most)
+    go : (b : Bool) → leb least m && leb m most ≡ b → cond b (some m) none ≡ some n → n ≤ most
     go true q h =
         let p : m ≡ n = cc in
-        let a = and-true (leb least m) (leb m most) q in
-        (omega (arith, leb-true least m (a .0)), omega (arith, leb-true m most (a .1)))
+        omega (arith, leb-true m most (and-true (leb least m) (leb m most) q .1))
     go false q h = absurd (Option·none-ne-some n h)
 
 -- a description that the headers may give
 pub record Known (d : Description) : Type 0 where
-  pub id-in : (n : ℕ) → d .id ≡ some n → (1 ≤ n) × (n ≤ 2_147_483_647)
-  pub fastest-in : (n : ℕ) → d .fastest ≡ some n → (1 ≤ n) × (n ≤ 67_108_864)
-  pub second-in : (n : ℕ) → d .second ≡ some n → (1 ≤ n) × (n ≤ 67_108_864)
-  pub third-in : (n : ℕ) → d .third ≡ some n → (1 ≤ n) × (n ≤ 67_108_864)
+  pub id-in : d .id ≤ 2_147_483_647
+  pub fastest-in : d .fastest ≤ 67_108_864
+  pub second-in : d .second ≤ 67_108_864
+  pub third-in : d .third ≤ 67_108_864
   pub few : d .elements ≤ 67_108_864
-  pub agree : dimensionsAgree (d .fastest) (d .second) (d .third) (d .elements) ≡ true
+  pub agree : dimensionsAgree (optional (d .fastest)) (optional (d .second)) (optional (d .third)) (d .elements) ≡ true
 
 abbrev Sound : Verdict → Type 0
 Sound (refuses k p) = Unit {0}
-Sound (describes d) = Known d × (sizeAgrees (d .compression) (d .type) (d .size) (d .elements) ≡ true)
+Sound (describes d) = Known d × (sizeAgrees (d .compression) (d .kind) (d .size) (d .elements) ≡ true)
 
 verdict-sound : (hs : HeaderLines) → Sound (verdict hs)
 unfolding verdict
 verdict-sound hs = go (judge (group (hs .lines) .headers) []) (judge-valued (group (hs .lines) .headers) [] (λ k n e. absurd (Option·none-ne-some n e)))
   where
-    -- a number that was found is within its header's bounds
+    -- a number that was found is at most its header's bound, and so is 0
     bounds : (fs : List (KnownHeader × ℕ)) → Valued fs → (k : KnownHeader) (least most : ℕ) → ((v : List ℕ) → valueOf k v ≡ between least most (number v))
-        → (n : ℕ) → look k fs ≡ some n → (least ≤ n) × (n ≤ most)
-    bounds fs w k least most b n q = let v = w k n q in between-in least most (number (v .0)) n (sym (b (v .0)) ∙ v .1)
+        → orZero (look k fs) ≤ most
+    bounds fs w k least most b = go (look k fs) refl
+      where
+        go : (o : Option ℕ) → look k fs ≡ o → orZero o ≤ most
+        go none q = omega arith
+        go (some n) q = let v = w k n q in between-most least most (number (v .0)) n (sym (b (v .0)) ∙ v .1)
 
     agreed : (e n k : ℕ) (fs : List (KnownHeader × ℕ)) (b : Bool) → agrees (description e n k fs) ≡ b → look Elements fs ≡ some k → Valued fs
         → Sound (cond b (describes (description e n k fs)) (refuses 7 (hs .empty)))
     agreed e n k fs true q h w =
         let d = description e n k fs in
-        let a = and-true (sizeAgrees (d .compression) (d .type) n k) (dimensionsAgree (d .fastest) (d .second) (d .third) k) q in (
+        let agreed = dimensionsAgree (optional (d .fastest)) (optional (d .second)) (optional (d .third)) k in
+        let a = and-true (sizeAgrees (d .compression) (d .kind) n k) agreed q in (
           record {
             id-in = bounds fs w Id 1 2_147_483_647 (λ v. refl);
             fastest-in = bounds fs w Fastest 1 67_108_864 (λ v. refl);
             second-in = bounds fs w Second 1 67_108_864 (λ v. refl);
             third-in = bounds fs w Third 1 67_108_864 (λ v. refl);
-            few = bounds fs w Elements 0 67_108_864 (λ v. refl) k h .1;
+            few = subst (λ (o : Option ℕ). orZero o ≤ 67_108_864) h (bounds fs w Elements 0 67_108_864 (λ v. refl));
             agree = a .1;
           },
           a .0,
@@ -132,5 +139,5 @@ module _ (hs : HeaderLines) (d : Description) (e : verdict hs ≡ describes d) w
   pub known : Known d
   known = subst Sound e (verdict-sound hs) .0
 
-  pub size-agrees : sizeAgrees (d .compression) (d .type) (d .size) (d .elements) ≡ true
+  pub size-agrees : sizeAgrees (d .compression) (d .kind) (d .size) (d .elements) ≡ true
   size-agrees = subst Sound e (verdict-sound hs) .1

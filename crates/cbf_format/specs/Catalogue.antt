@@ -1,5 +1,5 @@
 -- The catalogue of a file. Document 01, "House form, catalogue, listing".
-use mathlib.Core.Option.{Option, none, some, Option·getD}
+use mathlib.Core.Option.{Option, none, some}
 use mathlib.Core.Bool.{cond}
 use mathlib.Core.List.{List, [], _∷_, _++_}
 use Prim.Native.Nat.{ℕ, zero, suc, _-_}
@@ -57,8 +57,8 @@ entry at size elements compression type encoding id fastest second third name =
 abbrev pub entryOf : Placed → List ℕ
 entryOf p =
     let d = p .section .description in
-    entry (position p) (d .size) (d .elements) (d .compression) (d .type) (d .encoding) (Option·getD (d .id) 0) (Option·getD (d .fastest) 0)
-    (Option·getD (d .second) 0) (Option·getD (d .third) 0) (p .section .block)
+    entry (position p) (d .size) (d .elements) (d .compression) (d .kind) (d .encoding) (d .id) (d .fastest) (d .second) (d .third)
+    (p .section .block)
 
 unfoldable pub entries : List Placed → List ℕ
 entries [] = []

@@ -12,21 +12,31 @@ use Rattle.cbf_pixels.specs.declared.Compression.the-variants.{Uncompressed, By
 use Rattle.cbf_pixels.specs.Uncompressed.{octetsPer}
 use Rattle.cbf_format.specs.declared.KnownHeader.{KnownHeader}
 use Rattle.cbf_format.specs.declared.KnownHeader.the-variants.{TransferEncoding, Size, Elements, ContentType, Kind, ByteOrder, Id, Fastest, Second, Third}
+use Rattle.cbf_format.specs.declared.Description.{Description}
 use Rattle.cbf_format.specs.declared.Encoding.{Encoding}
 use Rattle.cbf_format.specs.declared.Encoding.the-variants.{Binary, Base64}
 use Rattle.cbf_format.specs.Headers.{Header, HeaderLines, headerLines, group}
 use Rattle.cbf_format.specs.Values.{knownHeaders, named, valueOf}
 
-pub record Description : Type 0 where
-  pub encoding : Encoding
-  pub size : ℕ
-  pub elements : ℕ
-  pub compression : Compression
-  pub type : ElementType
-  pub id : Option ℕ
-  pub fastest : Option ℕ
-  pub second : Option ℕ
-  pub third : Option ℕ
+-- a description of these parts
+abbrev pub descriptionOf : Encoding → ℕ → ℕ → Compression → ElementType → ℕ → ℕ → ℕ → ℕ → Description
+descriptionOf encoding size elements compression kind id fastest second third =
+    record {
+      encoding = encoding;
+      size = size;
+      elements = elements;
+      compression = compression;
+      kind = kind;
+      id = id;
+      fastest = fastest;
+      second = second;
+      third = third;
+    }
+
+-- an ID or a dimension of a description, where 0 stands for none
+abbrev pub optional : ℕ → Option ℕ
+optional zero = none
+optional (suc n) = some (suc n)
 
 -- ---- "6 over the headers in file order": the known headers with their values, or the place of the header that is repeated
 -- or has a bad value
@@ -91,7 +101,9 @@ dimensionsAgree (some a) (some b) none e = eqb (a * b) e
 dimensionsAgree (some a) (some b) (some c) e = eqb (a * b * c) e
 
 abbrev pub agrees : Description → Bool
-agrees d = sizeAgrees (d .compression) (d .type) (d .size) (d .elements) && dimensionsAgree (d .fastest) (d .second) (d .third) (d .elements)
+agrees d =
+    sizeAgrees (d .compression) (d .kind) (d .size) (d .elements)
+    && dimensionsAgree (optional (d .fastest)) (optional (d .second)) (optional (d .third)) (d .elements)
 
 -- ---- the description, or a refusal and its place after the boundary line
 
@@ -110,20 +122,14 @@ compressionOf (suc k) = ByteOffset
 abbrev pub typeOf : ℕ → ElementType
 typeOf k = cond (leb k 3) (cond (leb k 1) U8 (cond (leb k 2) S8 U16)) (cond (leb k 4) S16 (cond (leb k 5) U32 S32))
 
+abbrev pub orZero : Option ℕ → ℕ
+orZero n = Option·getD n 0
+
 -- "Absent: unsigned 32-bit integer"
 abbrev pub description : ℕ → ℕ → ℕ → List (KnownHeader × ℕ) → Description
 description e n k fs =
-    record {
-      encoding = encodingOf e;
-      size = n;
-      elements = k;
-      compression = compressionOf (Option·getD (look ContentType fs) 0);
-      type = typeOf (Option·getD (look Kind fs) 5);
-      id = look Id fs;
-      fastest = look Fastest fs;
-      second = look Second fs;
-      third = look Third fs;
-    }
+    descriptionOf (encodingOf e) n k (compressionOf (orZero (look ContentType fs))) (typeOf (Option·getD (look Kind fs) 5))
+    (orZero (look Id fs)) (orZero (look Fastest fs)) (orZero (look Second fs)) (orZero (look Third fs))
 
 abbrev pub orDisagrees : ℕ → Description → Verdict
 orDisagrees empty d = cond (agrees d) (describes d) (refuses 7 empty)

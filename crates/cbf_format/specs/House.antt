@@ -2,16 +2,15 @@
 -- "Replacement rewrites the span .., always byte offset, keeping type, ID and dimensions; other headers go."
 use mathlib.Core.Option.{Option, none, some}
 use mathlib.Core.List.{List, [], _∷_, _++_}
-use Prim.Native.Nat.{ℕ, _+_}
+use Prim.Native.Nat.{ℕ}
 use lib.Dec.{ltb}
 use lib.ListN.{length}
-use Rattle.cbf_pixels.specs.declared.Compression.the-variants.{ByteOffset}
-use Rattle.cbf_format.specs.declared.Encoding.the-variants.{Binary}
 use Rattle.cbf_format.specs.Text.{bytes}
 use Rattle.cbf_format.specs.Values.{typeWords}
-use Rattle.cbf_format.specs.Descriptions.{Description}
+use Rattle.cbf_format.specs.declared.Description.{Description}
+use Rattle.cbf_format.specs.Descriptions.{optional}
 use Rattle.cbf_walk.specs.Edits.{exchange, exchangeBoth}
-use Rattle.cbf_format.specs.Sections.{opening, closing, marker, Section}
+use Rattle.cbf_format.specs.Sections.{opening, closing, marker}
 use Rattle.cbf_format.specs.Listing.{printed, Placed}
 
 -- "With each line ended 13 10"
@@ -34,44 +33,18 @@ houseLines size d =
     ∷ bytes "     conversions=\"x-CBF_BYTE_OFFSET\""
     ∷ bytes "Content-Transfer-Encoding: BINARY"
     ∷ numberLine (bytes "X-Binary-Size: ") (some size)
-    (numberLine (bytes "X-Binary-ID: ") (d .id)
-    ((bytes "X-Binary-Element-Type: \"" ++ (typeWords (d .type) ++ bytes "\""))
+    (numberLine (bytes "X-Binary-ID: ") (optional (d .id))
+    ((bytes "X-Binary-Element-Type: \"" ++ (typeWords (d .kind) ++ bytes "\""))
     ∷ bytes "X-Binary-Element-Byte-Order: LITTLE_ENDIAN"
     ∷ numberLine (bytes "X-Binary-Number-of-Elements: ") (some (d .elements))
-    (numberLine (bytes "X-Binary-Size-Fastest-Dimension: ") (d .fastest)
-    (numberLine (bytes "X-Binary-Size-Second-Dimension: ") (d .second)
-    (numberLine (bytes "X-Binary-Size-Third-Dimension: ") (d .third) [])))))
+    (numberLine (bytes "X-Binary-Size-Fastest-Dimension: ") (optional (d .fastest))
+    (numberLine (bytes "X-Binary-Size-Second-Dimension: ") (optional (d .second))
+    (numberLine (bytes "X-Binary-Size-Third-Dimension: ") (optional (d .third)) [])))))
 
 -- the span of a section in house form, with these octets
 unfoldable pub house : Description → List ℕ → List ℕ
 unfolding endedLines houseLines
 house d os = ended opening ++ (endedLines (houseLines (length os) d) ++ (13 ∷ 10 ∷ (marker ++ (os ++ (13 ∷ 10 ∷ closing)))))
-
--- what is read of it
-abbrev pub housed : ℕ → Description → Description
-housed size d =
-    record {
-      encoding = Binary;
-      size = size;
-      elements = d .elements;
-      compression = ByteOffset;
-      type = d .type;
-      id = d .id;
-      fastest = d .fastest;
-      second = d .second;
-      third = d .third;
-    }
-
--- the section that is read of house form, in place of the section i
-abbrev pub housedSection : List ℕ → Section → Section
-housedSection os i =
-    record {
-      description = housed (length os) (i .description);
-      octets = os;
-      first = length (ended opening) + length (endedLines (houseLines (length os) (i .description))) + 2 + length marker;
-      width = length (house (i .description) os);
-      block = i .block;
-    }
 
 -- the file with the span of a section exchanged for its house form with these octets
 unfoldable pub replacedFile : List ℕ → Placed → List ℕ → List ℕ

@@ -79,7 +79,7 @@ sectionText number at size elements compression type name =
 
 abbrev pub sectionLine : ℕ → Placed → List ℕ
 sectionLine n p =
-    let d = p .section .description in sectionText n (position p) (d .size) (d .elements) (d .compression) (d .type) (p .section .block)
+    let d = p .section .description in sectionText n (position p) (d .size) (d .elements) (d .compression) (d .kind) (p .section .block)
 
 unfoldable pub sectionLines : ℕ → List Placed → List ℕ
 sectionLines n [] = []

@@ -9,7 +9,8 @@ use Rattle.cbf_format.specs.declared.Encoding.{Encoding}
 use Rattle.cbf_format.specs.declared.Encoding.the-variants.{Binary, Base64}
 use Rattle.cbf_format.specs.Text.{bytes}
 use Rattle.cbf_format.specs.Lines.{line, lineEnd, octets, word, semicolonLine}
-use Rattle.cbf_format.specs.Descriptions.{Description, headers}
+use Rattle.cbf_format.specs.declared.Description.{Description}
+use Rattle.cbf_format.specs.Descriptions.{headers}
 use Rattle.cbf_format.specs.Base64.{Letters, letters, decode, sized}
 
 abbrev pub opening : List ℕ

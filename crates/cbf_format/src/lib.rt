@@ -1,5 +1,8 @@
 // The file format: document 01's rules as definitions (specs/), their laws (proofs/), and the types that contracts speak of.
 
+use cbf_pixels::Compression;
+use cbf_pixels::ElementType;
+
 // "Text line: at most 80 characters, line end not counted." The calls for users take this limit; what reads takes it as a parameter.
 pub const LINE_LIMIT: usize = 80;
 
@@ -42,6 +45,19 @@ pub enum KnownHeader {
     Second,
     // X-Binary-Size-Third-Dimension
     Third,
+}
+
+// What a section's headers say. An ID or a dimension that is absent is 0: each is at least 1 where it is given.
+pub struct Description {
+    pub encoding: Encoding,
+    pub size: u64,
+    pub elements: u64,
+    pub compression: Compression,
+    pub kind: ElementType,
+    pub id: u64,
+    pub fastest: u64,
+    pub second: u64,
+    pub third: u64,
 }
 
 // What the parts of Content-Type have said so far of conversions: nothing, byte offset, or what is no value of it.

@@ -19,11 +19,11 @@ use Rattle.cbf_pixels.proofs.Bounds.{packed-limit}
 use Rattle.cbf_pixels.proofs.Round.{unpack-pack}
 use Rattle.cbf_format.specs.declared.Encoding.the-variants.{Binary}
 use Rattle.cbf_format.specs.Lines.{lineLimit}
-use Rattle.cbf_format.specs.Descriptions.{Description}
+use Rattle.cbf_format.specs.declared.Description.{Description}
 use Rattle.cbf_format.specs.Sections.{fileLimit, Section}
 use Rattle.cbf_format.specs.Files.{Tree, read}
 use Rattle.cbf_format.specs.Listing.{Placed, sections, numbered}
-use Rattle.cbf_format.specs.House.{housedSection}
+use Rattle.cbf_format.proofs.HouseSections.{housedSection}
 use Rattle.cbf_format.proofs.LineTame.{and-true}
 use Rattle.cbf_format.proofs.ReplacementLaws.{SpanAt, span-at, packed-fits, Next, Orders, orders}
 use Rattle.cbf_sections.specs.SectionCalls.{value, orMissing, sectionOf, frameOf, frameFor, frameOutcome, framePixels}
@@ -43,9 +43,9 @@ pub record Fitting (file : List ℕ) (n : ℕ) (p : Placed) (frame : List ℤ) :
   pub binary : p .section .description .encoding ≡ Binary
   pub fits : frameFits (p .section .description) frame ≡ true
 
-pub counted : (d : Description) (frame : List ℤ) → frameFits d frame ≡ true → (length frame ≡ d .elements) × (allWithin (least (d .type)) (greatest (d .type)) frame ≡ true)
+pub counted : (d : Description) (frame : List ℤ) → frameFits d frame ≡ true → (length frame ≡ d .elements) × (allWithin (least (d .kind)) (greatest (d .kind)) frame ≡ true)
 unfolding frameFits
-counted d frame e = let a = and-true _ (allWithin (least (d .type)) (greatest (d .type)) frame) e in (eqb-true (length frame) (d .elements) (a .0), a .1)
+counted d frame e = let a = and-true _ (allWithin (least (d .kind)) (greatest (d .kind)) frame) e in (eqb-true (length frame) (d .elements) (a .0), a .1)
 
 module _ {file : List ℕ} {n : ℕ} {p : Placed} {frame : List ℤ} (c : Fitting file n p frame) where
   here : sectionOf (read lineLimit file) n ≡ value p
@@ -153,9 +153,9 @@ frame-housed : (p : Placed) (frame : List ℤ) (i : Section) → p .section ≡ 
 unfolding frameOf unpackPixels
 frame-housed p frame i s f =
     let c = counted (i .description) frame f in
-    ap (λ (z : Section). let d = z .description in unpackPixels (d .compression) (d .type) (d .elements) (z .octets)) s
-    ∙ ap (λ (k : ℕ). unpackByteOffset (i .description .type) k (packByteOffset frame)) (sym (c .0))
-    ∙ unpack-pack (i .description .type) frame (c .1)
+    ap (λ (z : Section). let d = z .description in unpackPixels (d .compression) (d .kind) (d .elements) (z .octets)) s
+    ∙ ap (λ (k : ℕ). unpackByteOffset (i .description .kind) k (packByteOffset frame)) (sym (c .0))
+    ∙ unpack-pack (i .description .kind) frame (c .1)
 
 -- a section in house form with a frame that fits unpacks to it
 reads-back : (file : List ℕ) (n : ℕ) (frame : List ℤ) (i : Section) (tree : Tree) (p : Placed) → read lineLimit file ≡ good tree → numbered n (sections 0 tree) ≡ some p

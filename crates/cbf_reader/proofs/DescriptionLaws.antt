@@ -15,8 +15,9 @@ use Rattle.cbf_pixels.specs.declared.ElementType.the-variants.{U8, S32}
 use Rattle.cbf_pixels.specs.declared.Compression.{Compression}
 use Rattle.cbf_format.specs.declared.Encoding.{Encoding}
 use Rattle.cbf_format.specs.declared.KnownHeader.{KnownHeader}
-use Rattle.cbf_format.specs.Descriptions.{Description, look, typeOf, sizeAgrees, dimensionsAgree, orDisagrees}
-use Rattle.cbf_reader.specs.Found.{oneMore, foundOf, fieldOf, givenOr, optional, describedBy}
+use Rattle.cbf_format.specs.declared.Description.{Description}
+use Rattle.cbf_format.specs.Descriptions.{descriptionOf, optional, look, typeOf, sizeAgrees, dimensionsAgree, orDisagrees}
+use Rattle.cbf_reader.specs.Found.{oneMore, foundOf, fieldOf, givenOr, describedBy}
 use Rattle.cbf_reader.specs.declared.found.Found.{Found}
 use Rattle.cbf_reader.specs.declared.describe.Described.the-variants.{Disagree, As}
 use Rattle.cbf_reader.proofs.FoundLaws.{found-field}
@@ -43,10 +44,6 @@ pub optional-some : (n : ℕ) → (n ≡ 0 → ⊥) → optional n ≡ some n
 optional-some zero h = absurd (h refl)
 optional-some (suc n) h = refl
 
-pub optional-value : (n : ℕ) → n ≡ Option·getD (optional n) 0
-optional-value zero = refl
-optional-value (suc n) = refl
-
 pub none-given : (third elements : ℕ) → eqb third 0 ≡ dimensionsAgree none none (optional third) elements
 none-given zero elements = refl
 none-given (suc n) elements = eqb·suc-zero n
@@ -72,10 +69,6 @@ pub given-few : {r v limit : ℕ} → r ≡ givenOr 0 v → v ≤ limit → r �
 given-few {v = zero} e h = omega arith
 given-few {v = suc n} e h = omega arith
 
-pub dimension : {r v : ℕ} (o : Option ℕ) → r ≡ givenOr 0 v → v ≡ oneMore o → (v ≡ 1 → ⊥) → optional r ≡ o
-dimension none g e h = ap optional (g ∙ given-or 0 none e)
-dimension (some n) g e h = ap optional (g ∙ given-or 0 (some n) e) ∙ optional-some n (λ z. h (omega arith))
-
 pub found-at : {values : Found} (fs : List (KnownHeader × ℕ)) (k : KnownHeader) → values ≡ foundOf fs → fieldOf k values ≡ oneMore (look k fs)
 found-at fs k e = ap (fieldOf k) e ∙ found-field fs k
 
@@ -83,18 +76,18 @@ found-at fs k e = ap (fieldOf k) e ∙ found-field fs k
 
 pub record Says (d : Description) (by : Compression) (kind : ElementType) (fastest second third : ℕ) : Type 0 where
   pub compression-is : by ≡ d .compression
-  pub type-is : kind ≡ d .type
-  pub fastest-is : optional fastest ≡ d .fastest
-  pub second-is : optional second ≡ d .second
-  pub third-is : optional third ≡ d .third
+  pub kind-is : kind ≡ d .kind
+  pub fastest-is : fastest ≡ d .fastest
+  pub second-is : second ≡ d .second
+  pub third-is : third ≡ d .third
 
 module _ {d : Description} {by : Compression} {kind : ElementType} {fastest second third : ℕ} (s : Says d by kind fastest second third) where
-  size-as : sizeAgrees by kind (d .size) (d .elements) ≡ sizeAgrees (d .compression) (d .type) (d .size) (d .elements)
-  size-as = rw (s .compression-is, s .type-is)
+  size-as : sizeAgrees by kind (d .size) (d .elements) ≡ sizeAgrees (d .compression) (d .kind) (d .size) (d .elements)
+  size-as = rw (s .compression-is, s .kind-is)
 
   dimensions-as :
       dimensionsAgree (optional fastest) (optional second) (optional third) (d .elements)
-      ≡ dimensionsAgree (d .fastest) (d .second) (d .third) (d .elements)
+      ≡ dimensionsAgree (optional (d .fastest)) (optional (d .second)) (optional (d .third)) (d .elements)
   dimensions-as = rw (s .fastest-is, s .second-is, s .third-is)
 
   pub size-disagrees : sizeAgrees by kind (d .size) (d .elements) ≡ false → Disagree ≡ describedBy (orDisagrees 0 d)
@@ -111,24 +104,11 @@ module _ {d : Description} {by : Compression} {kind : ElementType} {fastest seco
         {encoding : Encoding} {id : ℕ}
         → dimensionsAgree (optional fastest) (optional second) (optional third) (d .elements) ≡ true
         → encoding ≡ d .encoding
-        → id ≡ Option·getD (d .id) 0
-        → As
-        (record {
-          encoding = encoding;
-          size = d .size;
-          elements = d .elements;
-          compression = by;
-          kind = kind;
-          id = id;
-          fastest = fastest;
-          second = second;
-          third = third;
-        })
-        ≡ describedBy (orDisagrees 0 d)
+        → id ≡ d .id
+        → As (descriptionOf encoding (d .size) (d .elements) by kind id fastest second third) ≡ describedBy (orDisagrees 0 d)
     unfolding describedBy
     agree h transfer number =
-        rw
-        (sym size-as ∙ sized, sym dimensions-as ∙ h, s .compression-is, s .type-is, transfer, number, value fastest (s .fastest-is), value second (s .second-is), value third (s .third-is))
-      where
-        value : (n : ℕ) {o : Option ℕ} → optional n ≡ o → n ≡ Option·getD o 0
-        value n e = optional-value n ∙ ap (λ x. Option·getD x 0) e
+        rw (sym size-as ∙ sized, sym dimensions-as ∙ h)
+        (λ i. As
+        (descriptionOf (transfer i) (d .size) (d .elements) (s .compression-is i) (s .kind-is i) (number i) (s .fastest-is i)
+        (s .second-is i) (s .third-is i)))

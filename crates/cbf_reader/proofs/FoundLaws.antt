@@ -5,15 +5,15 @@ use mathlib.Core.Bool.{Bool, true, false, cond}
 use mathlib.Core.List.{List, _∷_}
 use Prim.Native.Nat.{ℕ, _+_, _<_, _≤_, _^_}
 use native.Mathlib.Omega.{arith}
-use borrow.Author.Tests.{eqb-true}
 use Rattle.cbf_format.specs.declared.KnownHeader.{KnownHeader}
 use Rattle.cbf_format.specs.declared.KnownHeader.the-variants.{TransferEncoding, Size, Elements, ContentType, Kind, ByteOrder, Id, Fastest, Second, Third}
-use Rattle.cbf_format.specs.Descriptions.{ordinal, sameHeader, look}
+use Rattle.cbf_format.specs.Descriptions.{sameHeader, look}
 use Rattle.cbf_reader.specs.Found.{oneMore, foundOf, fieldOf, Stored, InRange}
 use Rattle.cbf_reader.specs.declared.found.Found.{Found}
 
 -- what holds of each known header
-each : (P : KnownHeader → Type 0) → P TransferEncoding → P Size → P Elements → P ContentType → P Kind → P ByteOrder → P Id → P Fastest → P Second → P Third → (k : KnownHeader) → P k
+each : (P : KnownHeader → Type 0) → P TransferEncoding → P Size → P Elements → P ContentType → P Kind → P ByteOrder
+    → P Id → P Fastest → P Second → P Third → (k : KnownHeader) → P k
 each P a b c d e f g h i j TransferEncoding = a
 each P a b c d e f g h i j Size = b
 each P a b c d e f g h i j Elements = c
@@ -57,27 +57,23 @@ pub stored : {f r : Found} {n : ℕ} {known : KnownHeader} (h : KnownHeader) →
     → r .second ≡ cond (sameHeader Second h) n (f .second)
     → r .third ≡ cond (sameHeader Third h) n (f .third)
     → Stored f known n r
-stored {f} {r} {n} h e e0 e1 e2 e3 e4 e5 e6 e7 e8 e9 = record { field = λ k. rw e (each (λ k. fieldOf k r ≡ cond (sameHeader k h) n (fieldOf k f)) e0 e1 e2 e3 e4 e5 e6 e7 e8 e9 k) }
+stored {f} {r} {n} h e a b c d g i j l m o =
+    record { field = λ k. rw e (each (λ k. fieldOf k r ≡ cond (sameHeader k h) n (fieldOf k f)) a b c d g i j l m o k) }
 
 -- one value more
-pub found-more : {values r : Found} {k : KnownHeader} (n : ℕ) (fs : List (KnownHeader × ℕ)) → values ≡ foundOf fs → Stored values k (n + 1) r → r ≡ foundOf ((k, n) ∷ fs)
-found-more {values} {r} {k} n fs e w = same-fields r (foundOf ((k, n) ∷ fs)) (λ j. w .field j ∙ go j (sameHeader j k) ∙ sym (found-field ((k, n) ∷ fs) j))
+pub found-more : {values r : Found} {k : KnownHeader} (n : ℕ) (fs : List (KnownHeader × ℕ)) → values ≡ foundOf fs
+    → Stored values k (n + 1) r → r ≡ foundOf ((k, n) ∷ fs)
+found-more {values} {r} {k} n fs e w =
+    same-fields r (foundOf ((k, n) ∷ fs)) (λ j. w .field j ∙ go j (sameHeader j k) ∙ sym (found-field ((k, n) ∷ fs) j))
   where
     go : (j : KnownHeader) (b : Bool) → cond b (n + 1) (fieldOf j values) ≡ oneMore (cond b (some n) (look j fs))
     go j true = refl
     go j false = ap (fieldOf j) e ∙ found-field fs j
 
 -- a value in range keeps the values so
-pub range-more : {values r : Found} {k : KnownHeader} (n : ℕ) → InRange values → n < 2 ^ 31 → (7 ≤ ordinal k → 1 ≤ n) → Stored values k (n + 1) r → InRange r
-range-more {values} {r} {k} n h most least w = record {
-  most = λ j. most-at j (sameHeader j k) (w .field j);
-  least = λ j d. least-at j (sameHeader j k) refl (w .field j) d;
-}
+pub range-more : {values r : Found} {k : KnownHeader} (n : ℕ) → InRange values → n < 2 ^ 31 → Stored values k (n + 1) r → InRange r
+range-more {values} {r} {k} n h l w = record { most = λ j. go j (sameHeader j k) (w .field j) }
   where
-    most-at : (j : KnownHeader) (b : Bool) → fieldOf j r ≡ cond b (n + 1) (fieldOf j values) → fieldOf j r ≤ 2 ^ 31
-    most-at j true e = omega arith
-    most-at j false e = omega (arith, h .most j)
-
-    least-at : (j : KnownHeader) (b : Bool) → sameHeader j k ≡ b → fieldOf j r ≡ cond b (n + 1) (fieldOf j values) → 7 ≤ ordinal j → fieldOf j r ≡ 1 → ⊥
-    least-at j true q e d z = let p : 1 ≤ n = least (omega (arith, eqb-true (ordinal j) (ordinal k) q)) in omega arith
-    least-at j false q e d z = h .least j d (sym e ∙ z)
+    go : (j : KnownHeader) (b : Bool) → fieldOf j r ≡ cond b (n + 1) (fieldOf j values) → fieldOf j r ≤ 2 ^ 31
+    go j true e = omega arith
+    go j false e = omega (arith, h .most j)

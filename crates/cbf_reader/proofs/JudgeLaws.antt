@@ -11,7 +11,7 @@ use Rattle.cbf_format.specs.declared.KnownHeader.{KnownHeader}
 use Rattle.cbf_format.specs.Text.{trim}
 use Rattle.cbf_format.specs.Headers.{Header, Grouped, group}
 use Rattle.cbf_format.specs.Values.{knownHeaders, named, valueOf}
-use Rattle.cbf_format.specs.Descriptions.{ordinal, look, put, judgeHeader, onward, judge}
+use Rattle.cbf_format.specs.Descriptions.{look, put, judgeHeader, onward, judge}
 use Rattle.cbf_format.specs.Descriptions as D
 use Rattle.cbf_reader.specs.Values.{joined, wholeOf, knownOf, InRangeOf}
 use Rattle.cbf_reader.specs.Found.{oneMore, foundOf, fieldOf, Stored, InRange}
@@ -29,8 +29,8 @@ use Rattle.cbf_reader.proofs.HeaderLaws.{lines-none, lines-end}
 -- ---- the range of a value
 
 -- what the range of a value says of a number
-pub number-range : (k : KnownHeader) {v : Whole} {n : ℕ} → v ≡ Number n → InRangeOf k v → (n < 2 ^ 31) × (7 ≤ ordinal k → 1 ≤ n)
-number-range k b g = subst (λ (x : Whole). InRangeOf k x) b g
+pub number-range : {v : Whole} {n : ℕ} → v ≡ Number n → InRangeOf v → n < 2 ^ 31
+number-range b g = subst InRangeOf b g
 
 -- ---- the name of a header
 
@@ -72,7 +72,7 @@ pub judging-none : {values : Found} (file : List ℕ) (from empty : ℕ) → val
 judging-none {values} file from empty e = record {
   fs = [];
   holds = e;
-  range = record { most = λ k. omega (arith, zero-at k); least = λ k h o. omega (arith, zero-at k) };
+  range = record { most = λ k. omega (arith, zero-at k) };
   left = λ h. record { on = h; same-start = refl; judged = refl };
 }
   where
@@ -90,7 +90,8 @@ judging-all {file} {values = values} place t e h =
     let q : judge (group (h .lines) .headers) [] ≡ D.found (t .fs) = l .judged ∙ ap (λ (ls : List (ℕ × List ℕ)). judge (group ls .headers) (t .fs)) n in
     subst (λ (j : D.Judged). judgedAt (h .at) (record { refused = false; place = place; values = values }) j) (sym q) (refl, t .holds)
 
-module _ {file : List ℕ} {from empty at : ℕ} {values : Found} {r : Parts} (t : Judging file from empty at values) (ps : (h : HeadersHere file at empty) → HeaderParts file at empty h r) where
+module _ {file : List ℕ} {from empty at : ℕ} {values : Found} {r : Parts} (t : Judging file from empty at values)
+    (ps : (h : HeadersHere file at empty) → HeaderParts file at empty h r) where
   -- the header, m bytes after the start
   abbrev headerAt : ℕ → Header
   headerAt m = record { at = m; name = slice at (r .colon) file; value = trim (joined (slice (r .colon + 1) (r .to) file)) }
@@ -121,7 +122,8 @@ module _ {file : List ℕ} {from empty at : ℕ} {values : Found} {r : Parts} (t
         fresh = p .fresh;
       }
 
-  judging-on : (fs : List (KnownHeader × ℕ)) (vs : Found) → vs ≡ foundOf fs → InRange vs → ((m : ℕ) → judgedHere m ≡ D.found fs) → Judging file from empty (r .next) vs
+  judging-on : (fs : List (KnownHeader × ℕ)) (vs : Found) → vs ≡ foundOf fs → InRange vs → ((m : ℕ) → judgedHere m ≡ D.found fs)
+      → Judging file from empty (r .next) vs
   unfolding next-headers
   judging-on fs vs e g q = record {
     fs = fs;
@@ -149,7 +151,8 @@ module _ {file : List ℕ} {from empty at : ℕ} {values : Found} {r : Parts} (t
 
     module _ {k : KnownHeader} (h : name ≡ Known k) where
       known-judged : (m : ℕ) → judgedHere m ≡ put m k (look k (t .fs)) (valueOf k (headerAt m .value)) (t .fs)
-      known-judged m = ap (λ (n : Option KnownHeader). judgeHeader (headerAt m) n (t .fs)) (is-known (named knownHeaders (slice at (r .colon) file)) (sym h ∙ e))
+      known-judged m =
+          ap (λ (n : Option KnownHeader). judgeHeader (headerAt m) n (t .fs)) (is-known (named knownHeaders (slice at (r .colon) file)) (sym h ∙ e))
 
       field-is : fieldOf k values ≡ oneMore (look k (t .fs))
       field-is = ap (fieldOf k) (t .holds) ∙ found-field (t .fs) k
@@ -179,9 +182,9 @@ module _ {file : List ℕ} {from empty at : ℕ} {values : Found} {r : Parts} (t
             go m (some n) q = let y : _≡_ {A = ℕ} 0 1 = cc in absurd (omega arith)
 
         -- a good one
-        pub judging-number : {n : ℕ} {vs : Found} → v ≡ Number n → InRangeOf k v → Stored values k (n + 1) vs → Judging file from empty (r .next) vs
+        pub judging-number : {n : ℕ} {vs : Found} → v ≡ Number n → InRangeOf v → Stored values k (n + 1) vs → Judging file from empty (r .next) vs
         judging-number {n} {vs} b g a =
-            judging-on ((k, n) ∷ t .fs) vs (found-more n (t .fs) (t .holds) a) (range-more n (t .range) (number-range k b g .0) (number-range k b g .1) a)
+            judging-on ((k, n) ∷ t .fs) vs (found-more n (t .fs) (t .holds) a) (range-more n (t .range) (number-range b g) a)
             (λ m. new-judged m ∙ go m (valueOf k (headerAt m .value)) (sym b ∙ w))
           where
             go : (m : ℕ) (o : Option ℕ) → Number n ≡ wholeOf o → put m k none o (t .fs) ≡ D.found ((k, n) ∷ t .fs)

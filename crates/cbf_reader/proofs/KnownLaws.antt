@@ -13,7 +13,6 @@ use Rattle.cbf_format.specs.declared.KnownHeader.the-variants.{TransferEncoding
 use Rattle.cbf_format.specs.declared.Conversion.{Conversion}
 use Rattle.cbf_format.specs.declared.Conversion.the-variants.{Unseen, Seen, Wrong}
 use Rattle.cbf_format.specs.Text.{bytes, lowers, same}
-use Rattle.cbf_format.specs.Descriptions.{ordinal}
 use Rattle.cbf_format.specs.Values.{number, between, oneOf, unquote, quotedOneOf, parts, withPart, conversions, contentType, typeNames, valueOf}
 use Rattle.cbf_reader.specs.Values.{wholeOf, InRangeOf}
 use Rattle.cbf_reader.specs.declared.value.Whole.{Whole}
@@ -58,26 +57,25 @@ content-type-bounded (some (p ∷ ps)) = conversions-bounded Unseen ps
 
 -- ---- the known headers
 
-bounded-in-range : (known : KnownHeader) (least limit : ℕ) (v : Option ℕ) → (7 ≤ ordinal known → 1 ≤ least) → limit ≤ 2 ^ 31 → Bounded least limit v
-    → InRangeOf known (wholeOf v)
-bounded-in-range known least limit none l h b = omega arith
-bounded-in-range known least limit (some n) l h b = (omega arith, λ k. let m = l k in omega arith)
+bounded-in-range : (least limit : ℕ) (v : Option ℕ) → limit ≤ 2 ^ 31 → Bounded least limit v → InRangeOf (wholeOf v)
+bounded-in-range least limit none h b = omega arith
+bounded-in-range least limit (some n) h b = omega arith
 
-in-range : (known : KnownHeader) (v : List ℕ) → InRangeOf known (wholeOf (valueOf known v))
-in-range TransferEncoding v = bounded-in-range TransferEncoding 0 2 (valueOf TransferEncoding v) (omega arith) (omega arith) (one-of-bounded 0 (bytes "binary" ∷ bytes "base64" ∷ []) v)
-in-range Size v = bounded-in-range Size 0 1_073_741_825 (valueOf Size v) (omega arith) (omega arith) (between-bounded 0 1_073_741_824 (number v))
-in-range Elements v = bounded-in-range Elements 0 67_108_865 (valueOf Elements v) (omega arith) (omega arith) (between-bounded 0 67_108_864 (number v))
-in-range ContentType v = bounded-in-range ContentType 0 2 (valueOf ContentType v) (omega arith) (omega arith) (content-type-bounded (parts false v))
-in-range Kind v = bounded-in-range Kind 1 7 (valueOf Kind v) (omega arith) (omega arith) (quoted-bounded 1 typeNames (unquote v))
-in-range ByteOrder v = bounded-in-range ByteOrder 1 2 (valueOf ByteOrder v) (omega arith) (omega arith) (quoted-bounded 1 (bytes "little_endian" ∷ []) (unquote v))
-in-range Id v = bounded-in-range Id 1 2_147_483_648 (valueOf Id v) (omega arith) (omega arith) (between-bounded 1 2_147_483_647 (number v))
-in-range Fastest v = bounded-in-range Fastest 1 67_108_865 (valueOf Fastest v) (omega arith) (omega arith) (between-bounded 1 67_108_864 (number v))
-in-range Second v = bounded-in-range Second 1 67_108_865 (valueOf Second v) (omega arith) (omega arith) (between-bounded 1 67_108_864 (number v))
-in-range Third v = bounded-in-range Third 1 67_108_865 (valueOf Third v) (omega arith) (omega arith) (between-bounded 1 67_108_864 (number v))
+in-range : (known : KnownHeader) (v : List ℕ) → InRangeOf (wholeOf (valueOf known v))
+in-range TransferEncoding v = bounded-in-range 0 2 (valueOf TransferEncoding v) (omega arith) (one-of-bounded 0 (bytes "binary" ∷ bytes "base64" ∷ []) v)
+in-range Size v = bounded-in-range 0 1_073_741_825 (valueOf Size v) (omega arith) (between-bounded 0 1_073_741_824 (number v))
+in-range Elements v = bounded-in-range 0 67_108_865 (valueOf Elements v) (omega arith) (between-bounded 0 67_108_864 (number v))
+in-range ContentType v = bounded-in-range 0 2 (valueOf ContentType v) (omega arith) (content-type-bounded (parts false v))
+in-range Kind v = bounded-in-range 1 7 (valueOf Kind v) (omega arith) (quoted-bounded 1 typeNames (unquote v))
+in-range ByteOrder v = bounded-in-range 1 2 (valueOf ByteOrder v) (omega arith) (quoted-bounded 1 (bytes "little_endian" ∷ []) (unquote v))
+in-range Id v = bounded-in-range 1 2_147_483_648 (valueOf Id v) (omega arith) (between-bounded 1 2_147_483_647 (number v))
+in-range Fastest v = bounded-in-range 1 67_108_865 (valueOf Fastest v) (omega arith) (between-bounded 1 67_108_864 (number v))
+in-range Second v = bounded-in-range 1 67_108_865 (valueOf Second v) (omega arith) (between-bounded 1 67_108_864 (number v))
+in-range Third v = bounded-in-range 1 67_108_865 (valueOf Third v) (omega arith) (between-bounded 1 67_108_864 (number v))
 
 -- the answer for the header k on the text t, which is v without its blanks
 pub answered : (k : KnownHeader) {known : KnownHeader} {t v : List ℕ} {r : Whole} → known ≡ k → t ≡ v → r ≡ wholeOf (valueOf k t)
-    → (r ≡ wholeOf (valueOf known v)) × InRangeOf known r
+    → (r ≡ wholeOf (valueOf known v)) × InRangeOf r
 answered k {known} {t} {v} {r} e q a =
     let s : r ≡ wholeOf (valueOf known v) = rw (e, ← q) a in
     (s, rw s (in-range known v))

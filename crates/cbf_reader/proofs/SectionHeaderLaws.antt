@@ -11,6 +11,7 @@ use Rattle.cbf_format.specs.Text.{blank}
 use Rattle.cbf_format.specs.Headers.{someName, splitColon, continues, malformed, HeaderLines, headerLines, group}
 use Rattle.cbf_format.specs.declared.KnownHeader.{KnownHeader}
 use Rattle.cbf_format.specs.declared.KnownHeader.the-variants.{TransferEncoding, Size, Elements}
+use Rattle.cbf_format.specs.declared.Description.{Description}
 use Rattle.cbf_format.specs.Descriptions as D
 use Rattle.cbf_pixels.specs.declared.Refusal.{Refusal}
 use Rattle.cbf_reader.specs.Places.{headersAt}
@@ -57,7 +58,7 @@ module _ (at e n : ℕ) where
   described-read (some i) (some j) (some k) fs = go (D.description i j k fs) (D.agrees (D.description i j k fs))
     where
       go :
-          (d : D.Description) (b : Bool)
+          (d : Description) (b : Bool)
           → readAs (at + e) (at + n) (describedBy (cond b (D.describes d) (D.refuses 7 0)))
           ≡ headersReadAt at (D.concludedBy (cond b (D.describes d) (D.refuses 7 e)) n)
       go d true = refl
@@ -72,10 +73,12 @@ module _ (at e n : ℕ) where
 
     judged-found :
         (j : D.Judged) → judgedAt at r j → r .refused ≡ false → (d : Described)
-        → ((fs : List (KnownHeader × ℕ)) → r .values ≡ foundOf fs → d ≡ describedBy (D.described 0 (D.look TransferEncoding fs) (D.look Size fs) (D.look Elements fs) fs))
+        → ((fs : List (KnownHeader × ℕ)) → r .values ≡ foundOf fs → d ≡ describedBy (D.verdictOf 0 (D.found fs)))
         → readAs (at + e) (at + n) d ≡ headersReadAt at (D.concludedBy (D.verdictOf e j) n)
     judged-found (D.refused-at p) h t d k = let z : true ≡ false = sym (h .0) ∙ t in absurd (let y : _≡_ {A = ℕ} 0 1 = cc in omega arith)
-    judged-found (D.found fs) h t d k = ap (readAs (at + e) (at + n)) (k fs (h .1)) ∙ described-read (D.look TransferEncoding fs) (D.look Size fs) (D.look Elements fs) fs
+    judged-found (D.found fs) h t d k =
+        ap (readAs (at + e) (at + n)) (k fs (h .1))
+        ∙ described-read (D.look TransferEncoding fs) (D.look Size fs) (D.look Elements fs) fs
 
 -- ---- the headers that start at a place
 
@@ -139,7 +142,7 @@ module _ (file : List ℕ) (at limit most : ℕ) where
 
         pub section-found :
             r .refused ≡ false → (d : Described)
-            → ((fs : List (KnownHeader × ℕ)) → r .values ≡ foundOf fs → d ≡ describedBy (D.described 0 (D.look TransferEncoding fs) (D.look Size fs) (D.look Elements fs) fs))
+            → ((fs : List (KnownHeader × ℕ)) → r .values ≡ foundOf fs → d ≡ describedBy (D.verdictOf 0 (D.found fs)))
             → readAs empty after d ≡ headersReadAt at (D.headers limit most (drop at file))
         section-found t d k =
             rw (h .start, h .end)

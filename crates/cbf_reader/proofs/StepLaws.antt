@@ -37,10 +37,9 @@ use Rattle.cbf_reader.specs.declared.section_headers.Headers.{Headers}
 use Rattle.cbf_reader.specs.declared.section_headers.Headers.the-variants as H
 use Rattle.cbf_reader.specs.declared.data.Data.{Data}
 use Rattle.cbf_reader.specs.declared.data.Data.the-variants as O
-use Rattle.cbf_reader.specs.declared.describe.Description.{Description}
+use Rattle.cbf_format.specs.declared.Description.{Description}
 use Rattle.cbf_reader.specs.HeaderPlaces.{headersReadAt}
 use Rattle.cbf_reader.specs.DataPlaces.{dataAt}
-use Rattle.cbf_reader.specs.Found.{descriptionOf}
 use Rattle.cbf_reader.proofs.step.Field.{the-type}
 use Rattle.cbf_format.proofs.Slices.{slice-take}
 use Rattle.cbf_reader.proofs.Texts.{by-run, same-lengths, length-lowers}
@@ -272,24 +271,25 @@ module _ (limit : ℕ) (file : List ℕ) (from at : ℕ) (low : from ≤ at) (bl
   abbrev pub dataFrom : Encoding → ℕ → ℕ → Data
   dataFrom e size next = dataAt next (S.dataFor limit e size (drop next file))
 
-  abbrev rest : (D.Description × ℕ) → List ℕ → Res S.Section
+  abbrev rest : (Description × ℕ) → List ℕ → Res S.Section
   rest dm = bind (S.dataFor limit (dm .0 .encoding) (dm .0 .size)) (λ d. ret (S.sectionOf b (at - from) dm d))
 
-  with-data : (d : D.Description) (n : ℕ) (q : Res S.Data) (s : List ℕ)
-      → withData from block (descriptionOf d) (dataAt (at + n) q) ≡ sectionReadAt from at block (plus n (then q (λ x. ret (S.sectionOf b (at - from) (d, n) x)) s))
+  with-data : (d : Description) (n : ℕ) (q : Res S.Data) (s : List ℕ)
+      → withData from block d (dataAt (at + n) q) ≡ sectionReadAt from at block (plus n (then q (λ x. ret (S.sectionOf b (at - from) (d, n) x)) s))
   with-data d n (bad k p) s = let e : (at + n) + p ≡ at + (n + p) = omega arith in ap (λ (z : ℕ). R.Refused (record { number = k; place = z })) e
   with-data d n cut s = refl
   with-data d n (ok x m) s =
       let e : (at + n) + x .lead ≡ from + ((at - from) + n + x .lead) = omega arith in
       let f : (at + n) + x .width ≡ from + ((at - from) + n + x .width) = omega arith in
       let g : (at + n) + m ≡ at + (n + (m + 0)) = omega arith in
-      (λ i. R.At (record { description = descriptionOf d; from = from; to = f i; first = e i; block = block }) (g i))
+      (λ i. R.At (record { description = d; from = from; to = f i; first = e i; block = block }) (g i))
 
-  with-headers : (r : Res D.Description) → withHeaders from block (headersReadAt at r) dataFrom ≡ sectionReadAt from at block (then (counted r) rest (drop at file))
+  with-headers : (r : Res Description)
+      → withHeaders from block (headersReadAt at r) dataFrom ≡ sectionReadAt from at block (then (counted r) rest (drop at file))
   with-headers (bad k p) = refl
   with-headers cut = refl
   with-headers (ok d n) =
-      ap (λ (s : List ℕ). withData from block (descriptionOf d) (dataAt (at + n) (S.dataFor limit (d .encoding) (d .size) s))) (sym (drop-drop n at file))
+      ap (λ (s : List ℕ). withData from block d (dataAt (at + n) (S.dataFor limit (d .encoding) (d .size) s))) (sym (drop-drop n at file))
       ∙ with-data d n (S.dataFor limit (d .encoding) (d .size) (drop n (drop at file))) (drop n (drop at file))
 
   pub section-read : (h : Headers) → h ≡ headersReadAt at (D.headers limit S.fileLimit (drop at file))
@@ -305,7 +305,7 @@ place-of (H.As d n) = n
 pub headers-within : (limit : ℕ) (file : List ℕ) (at : ℕ) → at ≤ length file → (d : Description) (next : ℕ) → H.As d next ≡ headersReadAt at (D.headers limit S.fileLimit (drop at file)) → next ≤ length file
 headers-within limit file at h d next = go (D.headers limit S.fileLimit (drop at file)) refl
   where
-    go : (r : Res D.Description) → D.headers limit S.fileLimit (drop at file) ≡ r → H.As d next ≡ headersReadAt at r → next ≤ length file
+    go : (r : Res Description) → D.headers limit S.fileLimit (drop at file) ≡ r → H.As d next ≡ headersReadAt at r → next ≤ length file
     go (bad k p) q e = let z : next ≡ 0 = ap place-of e in omega arith
     go cut q e = let z : next ≡ 0 = ap place-of e in omega arith
     go (ok x n) q e =

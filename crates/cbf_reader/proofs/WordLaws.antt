@@ -13,8 +13,8 @@ use lib.Seq.{slice, slice-empty, drop-cons}
 use Rattle.cbf_format.specs.declared.KnownHeader.{KnownHeader}
 use Rattle.cbf_format.specs.declared.KnownHeader.the-variants.{TransferEncoding}
 use Rattle.cbf_format.specs.Text.{lowers, same}
-use Rattle.cbf_format.specs.Values.{oneOf, nameOf, named, addQuoted, endQuote, unquote}
-use Rattle.cbf_reader.specs.Values.{joined, joinedFrom, Trimmed}
+use Rattle.cbf_format.specs.Values.{oneOf, nameOf, knownHeaders, named, addQuoted, endQuote, unquote}
+use Rattle.cbf_reader.specs.Values.{joined, joinedFrom, knownOf, Trimmed}
 use Rattle.cbf_reader.proofs.ValueLaws.{not-end, joined-next, joined-back}
 
 -- the words that name known headers
@@ -28,7 +28,10 @@ pub record Missed (n : ℕ) (ws : List (List ℕ)) (t : List ℕ) : Type 0 where
   pub headers : (hs : List KnownHeader) → ws ≡ names hs → named hs t ≡ named (drop n hs) t
 
 pub start : (ws : List (List ℕ)) (t : List ℕ) → Missed 0 ws t
-start ws t = record { rest = λ k. let s : k ≡ k + 0 = omega arith in ap (λ (j : ℕ). oneOf j ws t) s; headers = λ hs e. refl }
+start ws t = record {
+  rest = λ k. let s : k ≡ k + 0 = omega arith in ap (λ (j : ℕ). oneOf j ws t) s;
+  headers = λ hs e. refl;
+}
 
 -- the test of the word n, which tells b
 at-word : (n k : ℕ) (ws : List (List ℕ)) (t : List ℕ) (b : Bool) → n < length ws → b ≡ same (getD ws n []) (lowers t)
@@ -58,12 +61,19 @@ pub absent : {n : ℕ} {ws : List (List ℕ)} {t : List ℕ} → Missed n ws t �
 absent {n} {ws} {t} m h k = let le : length ws ≤ n = leb-true (length ws) n h in sym (m .rest k ∙ rw drop-of-length-le)
 
 -- it is the name of the header n; it is no name
-pub found-header : {n : ℕ} {t : List ℕ} {b : Bool} (hs : List KnownHeader) → Missed n (names hs) t → ltb n (length (names hs)) ≡ true
-    → b ≡ same (getD (names hs) n []) (lowers t) → b ≡ true → some (getD hs n TransferEncoding) ≡ named hs t
-found-header {n} {t} {b} hs m h e f = sym (m .headers hs refl ∙ at-name n hs t b (ltb-true n (length (names hs)) h) e ∙ rw f)
+pub found-header : {n : ℕ} {t : List ℕ} {b : Bool} → Missed n (names knownHeaders) t → ltb n (length (names knownHeaders)) ≡ true
+    → b ≡ same (getD (names knownHeaders) n []) (lowers t) → b ≡ true
+    → knownOf (some (getD knownHeaders n TransferEncoding)) ≡ knownOf (named knownHeaders t)
+found-header {n} {t} {b} m h e f =
+    let l = ltb-true n (length (names knownHeaders)) h in
+    let q : named knownHeaders t ≡ some (getD knownHeaders n TransferEncoding) = m .headers knownHeaders refl ∙ at-name n knownHeaders t b l e ∙ rw f in
+    ap knownOf (sym q)
 
-pub absent-header : {n : ℕ} {t : List ℕ} (hs : List KnownHeader) → Missed n (names hs) t → leb (length hs) n ≡ true → none ≡ named hs t
-absent-header {n} {t} hs m h = let le : length hs ≤ n = leb-true (length hs) n h in sym (m .headers hs refl ∙ rw drop-of-length-le)
+pub absent-header : {n : ℕ} {t : List ℕ} → Missed n (names knownHeaders) t → leb (length knownHeaders) n ≡ true
+    → knownOf none ≡ knownOf (named knownHeaders t)
+absent-header {n} {t} m h =
+    let le : length knownHeaders ≤ n = leb-true (length knownHeaders) n h in
+    ap knownOf (sym (m .headers knownHeaders refl ∙ ap (λ (hs : List KnownHeader). named hs t) (drop-of-length-le knownHeaders le)))
 
 -- at the places P of a function, each with the start of its call, the text of the call is none of the first n words
 pub record Past (n : ℕ) (ws : List (List ℕ)) {S P : Type 0} (text : S → List ℕ) (start-of : P → S) : Type 0 where

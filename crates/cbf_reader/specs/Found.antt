@@ -1,16 +1,14 @@
 -- The values of the known headers as the code keeps them.
 use mathlib.Core.Path.{_≡_}
-use mathlib.Core.Option.{Option, none, some, Option·getD}
+use mathlib.Core.Option.{Option, none, some}
 use mathlib.Core.List.{List, [], _∷_}
 use mathlib.Core.Bool.{cond}
 use lib.Dec.{eqb}
 use Prim.Native.Nat.{ℕ, zero, suc, _+_, _≤_, _^_}
 use Rattle.cbf_format.specs.declared.KnownHeader.{KnownHeader}
 use Rattle.cbf_format.specs.declared.KnownHeader.the-variants.{TransferEncoding, Size, Elements, ContentType, Kind, ByteOrder, Id, Fastest, Second, Third}
-use Rattle.cbf_format.specs.Descriptions.{ordinal, sameHeader, look, Verdict, refuses, describes}
-use Rattle.cbf_format.specs.Descriptions as D
+use Rattle.cbf_format.specs.Descriptions.{sameHeader, look, Verdict, refuses, describes}
 use Rattle.cbf_reader.specs.declared.found.Found.{Found}
-use Rattle.cbf_reader.specs.declared.describe.Description.{Description}
 use Rattle.cbf_reader.specs.declared.describe.Described.{Described}
 use Rattle.cbf_reader.specs.declared.describe.Described.the-variants.{Missing, Disagree, As}
 
@@ -51,36 +49,16 @@ fieldOf Third f = f .third
 pub record Stored (f : Found) (known : KnownHeader) (n : ℕ) (r : Found) : Type 0 where
   pub field : (k : KnownHeader) → fieldOf k r ≡ cond (sameHeader k known) n (fieldOf k f)
 
--- each value is below 2^31, and each dimension is at least 1
+-- each value is below 2^31
 pub record InRange (values : Found) : Type 0 where
   pub most : (k : KnownHeader) → fieldOf k values ≤ 2 ^ 31
-  pub least : (k : KnownHeader) → 7 ≤ ordinal k → fieldOf k values ≡ 1 → ⊥
 
 -- the value that is kept as one more, or another where there is none
 abbrev pub givenOr : ℕ → ℕ → ℕ
 givenOr absent zero = absent
 givenOr absent (suc n) = n
 
--- a number of which 0 stands for none
-abbrev pub optional : ℕ → Option ℕ
-optional zero = none
-optional (suc n) = some (suc n)
-
-abbrev pub descriptionOf : D.Description → Description
-descriptionOf d =
-    record {
-      encoding = d .encoding;
-      size = d .size;
-      elements = d .elements;
-      compression = d .compression;
-      kind = d .type;
-      id = Option·getD (d .id) 0;
-      fastest = Option·getD (d .fastest) 0;
-      second = Option·getD (d .second) 0;
-      third = Option·getD (d .third) 0;
-    }
-
 -- 7 where counts disagree, else 6 for a header that is missing
 unfoldable pub describedBy : Verdict → Described
 describedBy (refuses k p) = cond (eqb k 7) Disagree Missing
-describedBy (describes d) = As (descriptionOf d)
+describedBy (describes d) = As d

@@ -10,9 +10,10 @@ use Rattle.cbf_walk.specs.Parsers.{Res, bad, cut, ok}
 use Rattle.cbf_format.specs.Text.{trim}
 use Rattle.cbf_format.specs.Lines.{line, refusedByte}
 use Rattle.cbf_format.specs.Headers.{orMalformed, malformed, continues, Grouped, group}
+use Rattle.cbf_format.specs.declared.Description.{Description}
 use Rattle.cbf_format.specs.Descriptions as D
 use Rattle.cbf_reader.specs.Values.{joined}
-use Rattle.cbf_reader.specs.Found.{foundOf, descriptionOf}
+use Rattle.cbf_reader.specs.Found.{foundOf}
 use Rattle.cbf_reader.specs.declared.header_parts.Parts.{Parts}
 use Rattle.cbf_reader.specs.declared.judge.Judged.{Judged}
 use Rattle.cbf_reader.specs.declared.section_headers.Headers.{Headers}
@@ -90,7 +91,7 @@ judgedAt at r (D.refused-at p) = (r .refused ≡ true) × (r .place ≡ at + p)
 judgedAt at r (D.found fs) = (r .refused ≡ false) × (r .values ≡ foundOf fs)
 
 -- what the headers that start at a place say, and where their empty line ends
-abbrev pub headersReadAt : ℕ → Res D.Description → Headers
+abbrev pub headersReadAt : ℕ → Res Description → Headers
 headersReadAt at (bad k p) = H.Refused (record { number = k; place = at + p })
 headersReadAt at cut = H.CutOff
-headersReadAt at (ok d n) = H.As (descriptionOf d) (at + n)
+headersReadAt at (ok d n) = H.As d (at + n)

@@ -11,7 +11,6 @@ use Rattle.cbf_walk.specs.Parsers.{Res, bad, cut, ok, ret, plus, bind}
 use Rattle.cbf_format.specs.Sections as S
 use Rattle.cbf_format.specs.Files as F
 use Rattle.cbf_reader.specs.Places.{lineAt}
-use Rattle.cbf_reader.specs.Found.{descriptionOf}
 use Rattle.cbf_reader.specs.declared.line.Line.{Line}
 use Rattle.cbf_reader.specs.declared.value.Range.{Range}
 use Rattle.cbf_reader.specs.declared.step.Field.{Field}
@@ -26,7 +25,7 @@ use Rattle.cbf_reader.specs.declared.step.Stepped.the-variants as T
 -- ---- a section
 
 abbrev pub sectionAt : ℕ → Range → S.Section → Section
-sectionAt from block i = record { description = descriptionOf (i .description); from = from; to = from + i .width; first = from + i .first; block = block }
+sectionAt from block i = record { description = i .description; from = from; to = from + i .width; first = from + i .first; block = block }
 
 abbrev pub sectionReadAt : ℕ → ℕ → Range → Res S.Section → SectionRead
 sectionReadAt from at block (bad k p) = R.Refused (record { number = k; place = at + p })

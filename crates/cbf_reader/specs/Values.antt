@@ -11,7 +11,6 @@ use lib.Seq.{slice}
 use Rattle.cbf_format.specs.Text.{blank}
 use Rattle.cbf_format.specs.Values.{parts, contentType}
 use Rattle.cbf_format.specs.declared.KnownHeader.{KnownHeader}
-use Rattle.cbf_format.specs.Descriptions.{ordinal}
 use Rattle.cbf_reader.specs.declared.header.Name.{Name}
 use Rattle.cbf_reader.specs.declared.header.Name.the-variants.{Known, Other}
 use Rattle.cbf_reader.specs.declared.value.Character.{Character}
@@ -93,10 +92,10 @@ abbrev pub PartAt : List ℕ → ℕ → ℕ → PartEnd → Type 0
 PartAt file at to P.Unclosed = parts false (joined (slice at to file)) ≡ none
 PartAt file at to (P.At p) = (parts false (joined (slice at to file)) ≡ partThen (joined (slice at p file)) (cond (eqb p to) (some []) (parts false (joined (slice (p + 1) to file))))) × (at ≤ p) × (p ≤ to)
 
--- a value of a known header is below 2^31, and a dimension at least 1
-abbrev pub InRangeOf : KnownHeader → Whole → Type 0
-InRangeOf known Bad = 0 ≤ 0
-InRangeOf known (Number n) = (n < 2 ^ 31) × (7 ≤ ordinal known → 1 ≤ n)
+-- a value of a known header is below 2^31
+abbrev pub InRangeOf : Whole → Type 0
+InRangeOf Bad = 0 ≤ 0
+InRangeOf (Number n) = n < 2 ^ 31
 
 -- what the parts after the `;` at a place say, or no part
 unfoldable pub laterParts : List ℕ → ℕ → ℕ → Option ℕ

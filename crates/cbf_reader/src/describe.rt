@@ -1,5 +1,6 @@
 // What a section's headers say of it, from the values that were found: refusal 6 for a header that is missing, and 7.
 use crate::found::Found;
+use cbf_format::Description;
 use cbf_format::Encoding;
 use cbf_format::KnownHeader;
 use cbf_pixels::Compression;
@@ -9,22 +10,8 @@ ghost use mathlib.Core.List.{List};
 ghost use mathlib.Core.Option.{some};
 ghost use Prim.Native.Nat.{ℕ, _≤_, _^_};
 ghost use Rattle.cbf_pixels.specs.Uncompressed.{octetsPer};
-ghost use Rattle.cbf_format.specs.Descriptions.{look, sizeAgrees, dimensionsAgree, described, encodingOf, compressionOf, typeOf};
-ghost use Rattle.cbf_format.specs.declared.KnownHeader.the-variants.{TransferEncoding, Size, Elements};
-ghost use Rattle.cbf_reader.specs.Found.{foundOf, givenOr, optional, describedBy, InRange};
-
-// What a section's headers say. An ID or a dimension that is absent is 0.
-pub struct Description {
-    pub encoding: Encoding,
-    pub size: u64,
-    pub elements: u64,
-    pub compression: Compression,
-    pub kind: ElementType,
-    pub id: u64,
-    pub fastest: u64,
-    pub second: u64,
-    pub third: u64,
-}
+ghost use Rattle.cbf_format.specs.Descriptions.{sizeAgrees, dimensionsAgree, optional, found, described, verdictOf, encodingOf, compressionOf, typeOf};
+ghost use Rattle.cbf_reader.specs.Found.{foundOf, givenOr, describedBy, InRange};
 
 pub enum Described {
     Missing,
@@ -167,7 +154,7 @@ fn description_of(values: Found, encoding: u64, size: u64, elements: u64) -> Des
 // What the values say.
 pub fn describe(values: Found) -> Described
     requires { ⌜ InRange values ⌝ }
-    ensures { λ r. ⌜ ((fs : List (KnownHeader × ℕ)) → values ≡ foundOf fs → r ≡ describedBy (described 0 (look TransferEncoding fs) (look Size fs) (look Elements fs) fs)) ⌝ }
+    ensures { λ r. ⌜ ((fs : List (KnownHeader × ℕ)) → values ≡ foundOf fs → r ≡ describedBy (verdictOf 0 (found fs))) ⌝ }
 {
     let needed_encoding = values.encoding;
     if needed_encoding == 0 {

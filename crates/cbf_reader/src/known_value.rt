@@ -15,7 +15,7 @@ ghost use Rattle.cbf_reader.specs.Values.{joined, wholeOf, InRangeOf};
 // The value, from `from` up to to, of a known header.
 pub fn known_value(file: &[u8], known: KnownHeader, from: usize, to: usize) -> Whole
     requires { ⌜ (from ≤ to) × (to ≤ length (now file)) ⌝ }
-    ensures { λ r. ⌜ (r ≡ wholeOf (valueOf known (trim (joined (slice from to (now (file .entry))))))) × InRangeOf known r ⌝ }
+    ensures { λ r. ⌜ (r ≡ wholeOf (valueOf known (trim (joined (slice from to (now (file .entry))))))) × InRangeOf r ⌝ }
 {
     let text = value::trimmed(file, from, to);
     let text_from = text.from;

@@ -20,7 +20,6 @@ mod text;
 mod value;
 mod walk;
 
-pub use describe::Description;
 pub use step::Cursor;
 pub use step::Section;
 pub use survey::Count;

@@ -1,10 +1,10 @@
 // The headers of a section: pass over their lines, then judge them.
 use crate::describe;
 use crate::describe::Described;
-use crate::describe::Description;
 use crate::headers;
 use crate::headers::HeaderEnd;
 use crate::judge;
+use cbf_format::Description;
 use cbf_pixels::Refusal;
 ghost use mathlib.Core.Path.{_≡_};
 ghost use Prim.Native.Nat.{_≤_};

@@ -1,7 +1,6 @@
 // One step of reading: a line, or a whole section.
 use crate::data;
 use crate::data::Data;
-use crate::describe::Description;
 use crate::line;
 use crate::line::Line;
 use crate::section_headers;
@@ -9,6 +8,7 @@ use crate::section_headers::Headers;
 use crate::text;
 use crate::text::Class;
 use crate::value::Range;
+use cbf_format::Description;
 use cbf_pixels::Refusal;
 ghost use mathlib.Core.Path.{_≡_};
 ghost use mathlib.Core.Bool.{_&&_};

@@ -9,12 +9,12 @@ use lib.Seq.{length-sets}
 use Rattle.cbf_pixels.specs.declared.ElementType.{ElementType}
 use Rattle.cbf_pixels.specs.declared.ElementType.the-variants.{U8, S8, U16, S16, U32, S32}
 use Rattle.cbf_format.specs.Text.{bytes}
-use Rattle.cbf_format.specs.Descriptions as D
+use Rattle.cbf_format.specs.declared.Description.{Description}
+use Rattle.cbf_format.specs.Descriptions.{optional}
 use Rattle.cbf_format.specs.Sections.{opening, marker}
 use Rattle.cbf_format.specs.Listing.{printed}
 use Rattle.cbf_format.specs.Values.{typeWords}
 use Rattle.cbf_format.specs.House.{ended, endedLines, numberLine, houseLines}
-use Rattle.cbf_reader.specs.Found.{optional}
 use Rattle.cbf_write.proofs.Puts.{Put, put-both}
 use Rattle.cbf_replace.specs.HeadTexts.{headText, lineText}
 
@@ -191,21 +191,30 @@ module _ (s : Texts) (t : List ℕ) (size elements : ℕ) (i p q r : Option ℕ)
       + length (lineText (s .third-name) r)
   pieces-length = omega (arith, joined-length pieces, line-length (s .size-name) size, line-length (s .elements-name) elements)
 
-module _ (d : D.Description) (size : ℕ) where
+module _ (d : Description) (size : ℕ) where
   abbrev pub headPieces : List (List ℕ)
-  headPieces = pieces texts (typeWords (d .type)) size (d .elements) (d .id) (d .fastest) (d .second) (d .third)
+  headPieces =
+      pieces texts (typeWords (d .kind)) size (d .elements) (optional (d .id)) (optional (d .fastest)) (optional (d .second))
+      (optional (d .third))
 
   pub head-pieces : headText d size ≡ joined headPieces
   unfolding headText houseLines
-  head-pieces = text-pieces texts (typeWords (d .type)) size (d .elements) (d .id) (d .fastest) (d .second) (d .third)
+  head-pieces =
+      text-pieces texts (typeWords (d .kind)) size (d .elements) (optional (d .id)) (optional (d .fastest)) (optional (d .second))
+      (optional (d .third))
 
   -- 270 bytes are the same in every head
   pub head-length :
       length (headText d size)
-      ≡ 270 + length (typeWords (d .type)) + length (printed size) + length (printed (d .elements)) + length (lineText (texts .id-name) (d .id)) + length (lineText (texts .fastest-name) (d .fastest))
-      + length (lineText (texts .second-name) (d .second))
-      + length (lineText (texts .third-name) (d .third))
-  head-length = ap length head-pieces ∙ pieces-length texts (typeWords (d .type)) size (d .elements) (d .id) (d .fastest) (d .second) (d .third)
+      ≡ 270 + length (typeWords (d .kind)) + length (printed size) + length (printed (d .elements))
+      + length (lineText (texts .id-name) (optional (d .id)))
+      + length (lineText (texts .fastest-name) (optional (d .fastest)))
+      + length (lineText (texts .second-name) (optional (d .second)))
+      + length (lineText (texts .third-name) (optional (d .third)))
+  head-length =
+      ap length head-pieces
+      ∙ pieces-length texts (typeWords (d .kind)) size (d .elements) (optional (d .id)) (optional (d .fastest)) (optional (d .second))
+      (optional (d .third))
 
 pub type-short : (t : ElementType) → length (typeWords t) ≤ 23
 type-short U8 = omega arith

@@ -14,14 +14,14 @@ use Rattle.cbf_pixels.specs.Answers.{Outcome, gives, refuses, octetLimit}
 use Rattle.cbf_pixels.specs.Steps.{sizeOf}
 use Rattle.cbf_pixels.specs.declared.measure.Size.the-variants.{Outside, Octets}
 use Rattle.cbf_pixels.proofs.Calls.{measured, outside, all-small}
-use Rattle.cbf_format.specs.Descriptions.{Description}
+use Rattle.cbf_format.specs.declared.Description.{Description}
 use Rattle.cbf_format.specs.Sections.{opening, closing, marker, fileLimit}
 use Rattle.cbf_format.specs.House.{ended, endedLines, houseLines, house}
 use Rattle.cbf_reader.specs.declared.step.Section.{Section}
 use Rattle.cbf_write.specs.Rooms.{roomFor}
 use Rattle.cbf_write.proofs.RoomLaws.{Says, refusal, no-room, has-room}
 use Rattle.cbf_replace.specs.ReplaceCalls.{frameFits, roomForFile, replacePacked, replaceFitting}
-use Rattle.cbf_replace.specs.HeadTexts.{described, headText}
+use Rattle.cbf_replace.specs.HeadTexts.{headText}
 use Rattle.cbf_replace.specs.NewFiles.{fileWith, SpanIn, Packed}
 use Rattle.cbf_replace.proofs.HeadLaws.{joined}
 
@@ -30,7 +30,7 @@ use Rattle.cbf_replace.proofs.HeadLaws.{joined}
 -- before the span, the head, the octets, the closing, and what stands behind the span, as the code takes it from the file
 abbrev pub filePieces : List ℕ → Section → ℕ → List ℕ → List (List ℕ)
 filePieces file s size os =
-    take (s .from) file ∷ headText (described (s .description)) size ∷ os ∷ (13 ∷ 10 ∷ closing) ∷ take (length file - s .to) (drop (s .to) file) ∷ []
+    take (s .from) file ∷ headText (s .description) size ∷ os ∷ (13 ∷ 10 ∷ closing) ∷ take (length file - s .to) (drop (s .to) file) ∷ []
 
 five-pieces : (a o e m os c d : List ℕ)
     → a ++ ((o ++ (e ++ (13 ∷ 10 ∷ (m ++ (os ++ (13 ∷ 10 ∷ c)))))) ++ d) ≡ a ++ ((o ++ (e ++ (13 ∷ 10 ∷ m))) ++ (os ++ ((13 ∷ 10 ∷ c) ++ (d ++ []))))
@@ -40,13 +40,13 @@ pub file-pieces : (file : List ℕ) (s : Section) {size : ℕ} (os : List ℕ) �
 unfolding fileWith house headText
 file-pieces file s os e =
     rw (e, take-all (length file - s .to) (drop (s .to) file) (omega (arith, length-drop (s .to) file)))
-    (five-pieces (take (s .from) file) (ended opening) (endedLines (houseLines (length os) (described (s .description)))) marker os closing (drop (s .to) file))
+    (five-pieces (take (s .from) file) (ended opening) (endedLines (houseLines (length os) (s .description))) marker os closing (drop (s .to) file))
 
 pub file-length : {file : List ℕ} {s : Section} {size : ℕ} (os : List ℕ) → size ≡ length os → SpanIn file s
-    → length (fileWith file s os) ≡ s .from + (length (headText (described (s .description)) size) + size + 33) + (length file - s .to)
+    → length (fileWith file s os) ≡ s .from + (length (headText (s .description) size) + size + 33) + (length file - s .to)
 file-length {file} {s} {size} os e i =
     let a = take (s .from) file in
-    let h = headText (described (s .description)) size in
+    let h = headText (s .description) size in
     let c : List ℕ = 13 ∷ 10 ∷ closing in
     let d = take (length file - s .to) (drop (s .to) file) in
     omega (
@@ -100,14 +100,14 @@ module _ (d : Description) (frame : List ℤ) (new old : List ℕ) where
   unfolding frameFits
   wrong-count h = unfit (rw (ne-eqb (length frame) (d .elements) h) refl)
 
-  pub pixel-outside : length frame ≡ d .elements → Outside ≡ sizeOf (d .type) frame → SaysFitting (refuses 14 0) old
+  pub pixel-outside : length frame ≡ d .elements → Outside ≡ sizeOf (d .kind) frame → SaysFitting (refuses 14 0) old
   unfolding frameFits
-  pixel-outside e h = unfit (rw (eq-eqb (length frame) (d .elements) e, outside (d .type) frame old h) refl)
+  pixel-outside e h = unfit (rw (eq-eqb (length frame) (d .elements) e, outside (d .kind) frame old h) refl)
 
-  pub frame-packed : {n : ℕ} → Octets n ≡ sizeOf (d .type) frame → Packed frame n
-  frame-packed {n} h = let m = measured (d .type) frame old n h in record { small = all-small (d .type) frame (m .0); counted = sym (m .1) }
+  pub frame-packed : {n : ℕ} → Octets n ≡ sizeOf (d .kind) frame → Packed frame n
+  frame-packed {n} h = let m = measured (d .kind) frame old n h in record { small = all-small (d .kind) frame (m .0); counted = sym (m .1) }
 
-  pub frame-fits : {n : ℕ} {said : Outcome} {out : List ℕ} → length frame ≡ d .elements → Octets n ≡ sizeOf (d .type) frame
+  pub frame-fits : {n : ℕ} {said : Outcome} {out : List ℕ} → length frame ≡ d .elements → Octets n ≡ sizeOf (d .kind) frame
       → SaysPacked (packByteOffset frame) new old said out → SaysFitting said out
   unfolding pick replaceFitting frameFits
-  frame-fits {n} e h u = rw (eq-eqb (length frame) (d .elements) e, measured (d .type) frame old n h .0) u
+  frame-fits {n} e h u = rw (eq-eqb (length frame) (d .elements) e, measured (d .kind) frame old n h .0) u

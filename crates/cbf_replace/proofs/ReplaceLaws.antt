@@ -1,8 +1,8 @@
 -- The section of the code and the section of the file: its span, and the new file. Assumes nothing.
 use mathlib.Core.Path.{_≡_, refl, sym, ap, _∙_, subst}
-use mathlib.Core.Option.{Option, none, some, Option·getD}
+use mathlib.Core.Option.{Option, none, some}
 use mathlib.Core.List.{List}
-use Prim.Native.Nat.{ℕ, zero, suc, _≤_}
+use Prim.Native.Nat.{ℕ, _≤_}
 use native.Mathlib.Omega.{arith}
 use lib.ListN.{length}
 use lib.IntN.{ℤ}
@@ -11,16 +11,14 @@ use Rattle.cbf_walk.specs.Edits.{exchange}
 use Rattle.cbf_pixels.specs.Pixels.{packByteOffset}
 use Rattle.cbf_pixels.specs.Answers.{Outcome, refuses}
 use Rattle.cbf_pixels.specs.declared.Refusal.{Refusal}
+use Rattle.cbf_format.specs.declared.Description.{Description}
 use Rattle.cbf_format.specs.declared.Encoding.{Encoding}
 use Rattle.cbf_format.specs.declared.Encoding.the-variants.{Binary, Base64}
-use Rattle.cbf_format.specs.Descriptions as D
 use Rattle.cbf_format.specs.Sections as S
 use Rattle.cbf_format.specs.Files as F
 use Rattle.cbf_format.specs.Listing.{Placed, sections, numbered}
 use Rattle.cbf_format.specs.House.{replacedFile}
-use Rattle.cbf_format.proofs.VerdictLaws.{Known}
 use Rattle.cbf_format.proofs.ReplacementLaws.{SpanAt, span-at}
-use Rattle.cbf_reader.specs.Found.{optional, descriptionOf}
 use Rattle.cbf_reader.specs.WalkPlaces.{SectionOf}
 use Rattle.cbf_reader.specs.Surveys.{NumberedSays}
 use Rattle.cbf_reader.specs.declared.step.Section.{Section}
@@ -29,49 +27,25 @@ use Rattle.cbf_sections.specs.SectionCalls.{value, orMissing, sectionOf}
 use Rattle.cbf_sections.proofs.SectionCallLaws.{frame-of, section-answer, section-refused}
 use Rattle.cbf_write.proofs.RoomLaws.{Says, refusal}
 use Rattle.cbf_replace.specs.ReplaceCalls.{replaceFitting, replaceFor, replaceOutcome, replacedBy}
-use Rattle.cbf_replace.specs.HeadTexts.{described}
 use Rattle.cbf_replace.specs.NewFiles.{fileWith, SpanIn}
 use Rattle.cbf_replace.proofs.NewFileLaws.{SaysFitting}
-
--- ---- the description of the code stands for the one that it was made from
-
-optional-held : (o : Option ℕ) → ((n : ℕ) → o ≡ some n → 1 ≤ n) → optional (Option·getD o 0) ≡ o
-optional-held none h = refl
-optional-held (some zero) h = absurd (omega (arith, h 0 refl))
-optional-held (some (suc n)) h = refl
-
-described-known : (d : D.Description) → Known d → described (descriptionOf d) ≡ d
-described-known d k = λ i. record {
-  encoding = d .encoding;
-  size = d .size;
-  elements = d .elements;
-  compression = d .compression;
-  type = d .type;
-  id = optional-held (d .id) (λ n e. k .id-in n e .0) i;
-  fastest = optional-held (d .fastest) (λ n e. k .fastest-in n e .0) i;
-  second = optional-held (d .second) (λ n e. k .second-in n e .0) i;
-  third = optional-held (d .third) (λ n e. k .third-in n e .0) i;
-}
 
 -- ---- the section of the code
 
 -- the section with a number, as the code has it
 pub record Here (file : List ℕ) (p : Placed) (s : Section) : Type 0 where
   pub span : SpanIn file s
-  pub encoding : s .description .encoding ≡ p .section .description .encoding
-  pub description : described (s .description) ≡ p .section .description
+  pub description : s .description ≡ p .section .description
   pub new : (os : List ℕ) → fileWith file s os ≡ replacedFile file p os
 
 here : {file : List ℕ} {p : Placed} {s : Section} → SectionOf file p s → SpanAt file p → Here file p s
 unfolding fileWith replacedFile exchange
 here {file} {p} {s} i a =
-    let d = described-known (p .section .description) (a .is-known) in
     subst (Here file p) (sym (i .fields))
     (record {
       span = record { low = omega arith; inside = a .inside; short = a .short; few = a .is-known .few };
-      encoding = refl;
-      description = d;
-      new = λ os. rw d refl;
+      description = refl;
+      new = λ os. refl;
     })
 
 section-good : (r : Reading (Item F.State S.Section)) (n : ℕ) (p : Placed) → sectionOf r n ≡ value p
@@ -105,7 +79,7 @@ module _ (file : List ℕ) (r : Reading (Item F.State S.Section)) (n : ℕ) (fra
   answer : {e : Encoding} → s .description .encoding ≡ e
       → replaceFor e (p .section .description) frame (replacedFile file p (packByteOffset frame)) (length old) ≡ replaceOutcome file r n frame (length old)
   unfolding replaceOutcome
-  answer q = rw (sym q ∙ h .encoding) (sym (section-answer p _ at))
+  answer q = rw (sym q ∙ ap (λ (d : Description). d .encoding) (h .description)) (sym (section-answer p _ at))
 
   file-is : replacedFile file p (packByteOffset frame) ≡ replacedBy file r n frame
   unfolding replacedBy
@@ -115,8 +89,8 @@ module _ (file : List ℕ) (r : Reading (Item F.State S.Section)) (n : ℕ) (fra
   replace-text q = refusal (replacedBy file r n frame) old (answer q)
 
   pub replace-binary : {said : Outcome} {out : List ℕ} → s .description .encoding ≡ Binary
-      → SaysFitting (described (s .description)) frame (fileWith file s (packByteOffset frame)) old said out → Replaces file r n frame old said out
+      → SaysFitting (s .description) frame (fileWith file s (packByteOffset frame)) old said out → Replaces file r n frame old said out
   replace-binary {said} {out} q u =
-      let v = rw (h .description, h .new (packByteOffset frame)) at u in
+      let v = rw (h .new (packByteOffset frame), h .description) at u in
       subst (λ (z : Outcome). Says z (replacedBy file r n frame) old said out) (answer q)
       (subst (λ (z : List ℕ). Says (replaceFitting (p .section .description) frame (replacedFile file p (packByteOffset frame)) (length old)) z old said out) file-is v)

@@ -9,11 +9,10 @@ use Rattle.cbf_pixels.specs.Steps.{AllSmall}
 use Rattle.cbf_format.specs.Sections.{fileLimit}
 use Rattle.cbf_format.specs.House.{house}
 use Rattle.cbf_reader.specs.declared.step.Section.{Section}
-use Rattle.cbf_replace.specs.HeadTexts.{described}
 
 -- the file with the span of the section exchanged for house form with these octets
 unfoldable pub fileWith : List ℕ → Section → List ℕ → List ℕ
-fileWith file s os = take (s .from) file ++ (house (described (s .description)) os ++ drop (s .to) file)
+fileWith file s os = take (s .from) file ++ (house (s .description) os ++ drop (s .to) file)
 
 -- the span of the section is in the file
 pub record SpanIn (file : List ℕ) (s : Section) : Type 0 where

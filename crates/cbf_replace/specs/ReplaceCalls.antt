@@ -11,7 +11,7 @@ use Rattle.cbf_pixels.specs.Pixels.{least, greatest, allWithin, packByteOffset}
 use Rattle.cbf_pixels.specs.Answers.{Outcome, refuses, octetLimit}
 use Rattle.cbf_format.specs.declared.Encoding.{Encoding}
 use Rattle.cbf_format.specs.declared.Encoding.the-variants.{Binary, Base64}
-use Rattle.cbf_format.specs.Descriptions.{Description}
+use Rattle.cbf_format.specs.declared.Description.{Description}
 use Rattle.cbf_format.specs.Sections.{fileLimit, Section}
 use Rattle.cbf_format.specs.Files.{State}
 use Rattle.cbf_format.specs.Listing.{Placed}
@@ -21,7 +21,7 @@ use Rattle.cbf_sections.specs.SectionCalls.{Result, refusal, value, sectionOf, 
 
 -- "Fits: as many pixels as elements, each inside the integer type"
 unfoldable pub frameFits : Description → List ℤ → Bool
-frameFits d frame = eqb (length frame) (d .elements) && allWithin (least (d .type)) (greatest (d .type)) frame
+frameFits d frame = eqb (length frame) (d .elements) && allWithin (least (d .kind)) (greatest (d .kind)) frame
 
 -- 15: "lent output shorter than the answer, or result file too long"
 unfoldable pub roomForFile : List ℕ → ℕ → Outcome

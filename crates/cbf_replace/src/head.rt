@@ -1,14 +1,14 @@
 // The head of a section in house form: its opening boundary, headers, empty line and marker. Measured and written by the same pieces.
+use cbf_format::Description;
 use cbf_pixels::ElementType;
-use cbf_reader::Description;
 ghost use mathlib.Core.Path.{_≡_};
 ghost use mathlib.Core.Option.{some};
 ghost use Prim.Native.Nat.{_+_, _≤_};
 ghost use lib.ListN.{length};
 ghost use lib.Seq.{sets};
 ghost use Rattle.cbf_format.specs.Values.{typeWords};
-ghost use Rattle.cbf_reader.specs.Found.{optional};
-ghost use Rattle.cbf_replace.specs.HeadTexts.{described, headText, lineText};
+ghost use Rattle.cbf_format.specs.Descriptions.{optional};
+ghost use Rattle.cbf_replace.specs.HeadTexts.{headText, lineText};
 
 fn type_length(kind: ElementType) -> usize
     ensures { λ r. ⌜ r ≡ length (typeWords kind) ⌝ }
@@ -73,7 +73,7 @@ fn put_optional(out: &mut [u8], at: usize, name: &[u8], n: u64) -> usize
 
 // The length of the head of a section with size octets.
 pub fn head_length(d: Description, size: u64) -> usize
-    ensures { λ r. ⌜ (r ≡ length (headText (described d) size)) × (r ≤ 1000) ⌝ }
+    ensures { λ r. ⌜ (r ≡ length (headText d size)) × (r ≤ 1000) ⌝ }
 {
     let kind = d.kind;
     // 270 bytes are the same in every head: opening, content type, encoding, what stands around the element type, byte order, the names of
@@ -88,9 +88,9 @@ pub fn head_length(d: Description, size: u64) -> usize
 
 // Writes the head of a section with size octets; the place after it.
 pub fn put_head(out: &mut [u8], at: usize, d: Description, size: u64) -> usize
-    requires { ⌜ at + length (headText (described d) size) ≤ length (now out) ⌝ }
-    ensures { λ r. ⌜ r ≡ at + length (headText (described d) size) ⌝ }
-    ensures { λ _. ⌜ now (out .exit) ≡ sets (now (out .entry)) at (headText (described d) size) ⌝ }
+    requires { ⌜ at + length (headText d size) ≤ length (now out) ⌝ }
+    ensures { λ r. ⌜ r ≡ at + length (headText d size) ⌝ }
+    ensures { λ _. ⌜ now (out .exit) ≡ sets (now (out .entry)) at (headText d size) ⌝ }
 {
     let kind = d.kind;
     let after_encoding = cbf_write::put_text(

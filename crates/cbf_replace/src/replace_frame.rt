@@ -12,14 +12,13 @@ ghost use Rattle.cbf_pixels.specs.Pixels.{packByteOffset};
 ghost use Rattle.cbf_pixels.specs.Answers.{outcome, written};
 ghost use Rattle.cbf_format.specs.Files as F;
 ghost use Rattle.cbf_replace.specs.ReplaceCalls.{replaceFitting, replaceOutcome, replacedBy};
-ghost use Rattle.cbf_replace.specs.HeadTexts.{described};
 ghost use Rattle.cbf_replace.specs.NewFiles.{fileWith, SpanIn};
 
 // Replaces the frame of a section: 14, 16, 15, or the length of the new file.
 fn replace_section(file: &[u8], s: Section, frame: &[i64], out: &mut [u8]) -> Answer
     requires { ⌜ SpanIn (now file) s ⌝ }
-    ensures answer { λ r. ⌜ outcome r ≡ replaceFitting (described (s .description)) (now (frame .entry)) (fileWith (now (file .entry)) s (packByteOffset (now (frame .entry)))) (length (now (out .entry))) ⌝ }
-    ensures output { λ _. ⌜ now (out .exit) ≡ written (replaceFitting (described (s .description)) (now (frame .entry)) (fileWith (now (file .entry)) s (packByteOffset (now (frame .entry)))) (length (now (out .entry)))) (fileWith (now (file .entry)) s (packByteOffset (now (frame .entry)))) (now (out .entry)) ⌝ }
+    ensures answer { λ r. ⌜ outcome r ≡ replaceFitting (s .description) (now (frame .entry)) (fileWith (now (file .entry)) s (packByteOffset (now (frame .entry)))) (length (now (out .entry))) ⌝ }
+    ensures output { λ _. ⌜ now (out .exit) ≡ written (replaceFitting (s .description) (now (frame .entry)) (fileWith (now (file .entry)) s (packByteOffset (now (frame .entry)))) (length (now (out .entry)))) (fileWith (now (file .entry)) s (packByteOffset (now (frame .entry)))) (now (out .entry)) ⌝ }
 {
     let d = s.description;
     let kind = d.kind;

@@ -274,10 +274,12 @@ written-placed first (refuses k p) new old = go (eqb k 13)
 
 -- the answer for octets alone, with 13 at the first of them, is the frame's
 unpack-placed : (p : Placed) (room : ℕ) → p .section .description .elements ≤ 67108864
-    → placedAt (position p) (unpackOutcome (p .section .description .compression) (p .section .description .type) (p .section .description .elements) (p .section .octets) room)
-    ≡ frameFor p room
+    → let d = p .section .description in
+    placedAt (position p) (unpackOutcome (d .compression) (d .kind) (d .elements) (p .section .octets) room) ≡ frameFor p room
 unfolding pick unpackOutcome frameOf
-unpack-placed p room few = rw (le-leb n 67108864 few) (go (isSome (unpackPixels (p .section .description .compression) (p .section .description .type) n (p .section .octets))) (leb n room))
+unpack-placed p room few =
+    let d = p .section .description in
+    rw (le-leb n 67108864 few) (go (isSome (unpackPixels (d .compression) (d .kind) n (p .section .octets))) (leb n room))
   where
     n : ℕ
     n = p .section .description .elements

@@ -23,4 +23,5 @@ pub record FrameOf (file : List ℕ) (p : Placed) (s : Section) : Type 0 where
   pub binary : p .section .description .encoding ≡ Binary → InFile file p
   pub base64 : p .section .description .encoding ≡ Base64 → (to : ℕ) × TextOf file p to
   pub few : p .section .description .elements ≤ 67108864
-  pub whole : p .section .description .compression ≡ Uncompressed → p .section .description .size ≡ p .section .description .elements * octetsPer (p .section .description .type)
+  pub whole : p .section .description .compression ≡ Uncompressed
+      → p .section .description .size ≡ p .section .description .elements * octetsPer (p .section .description .kind)

@@ -14,8 +14,7 @@ use Rattle.cbf_format.specs.declared.Encoding.the-variants.{Binary, Base64}
 use Rattle.cbf_format.specs.Sections as S
 use Rattle.cbf_format.specs.Files as F
 use Rattle.cbf_format.specs.Listing.{Placed, sections, numbered, position}
-use Rattle.cbf_reader.specs.Found.{descriptionOf}
-use Rattle.cbf_reader.specs.declared.describe.Description.{Description}
+use Rattle.cbf_format.specs.declared.Description.{Description}
 use Rattle.cbf_reader.specs.declared.survey.Numbered.{Numbered}
 use Rattle.cbf_reader.specs.declared.survey.Numbered.the-variants as N
 use Rattle.cbf_sections.specs.declared.section_calls.OctetsPlace.{OctetsPlace}
@@ -78,7 +77,7 @@ numberedFields file (N.As s) =
 abbrev pub fieldsOf : Placed → Fields
 fieldsOf p =
     record {
-      description = descriptionOf (p .section .description);
+      description = p .section .description;
       boundary = p .boundary;
       end = p .boundary + p .section .width;
       first = position p;
@@ -134,7 +133,7 @@ placeOf (O.At first size) = value (record { start = first; count = size })
 -- the frame of a section: its pixels, where its octets unpack
 unfoldable pub frameOf : Placed → Option (List ℤ)
 frameOf p =
-    let d = p .section .description in unpackPixels (d .compression) (d .type) (d .elements) (p .section .octets)
+    let d = p .section .description in unpackPixels (d .compression) (d .kind) (d .elements) (p .section .octets)
 
 -- 13: "octets do not unpack", at the "section's first octet"; 15: "lent output shorter than the answer"
 abbrev pub frameFor : Placed → ℕ → Outcome

@@ -3,29 +3,43 @@ use borrow.Author.Needs.{needs}
 use native.Mathlib.Omega.{arith}
 use Rattle.cbf_format.specs.declared.KnownHeader.the-variants.{TransferEncoding, Size, Elements}
 use Rattle.cbf_format.specs.Descriptions.{look}
-use Rattle.cbf_reader.specs.Found.{foundOf, describedBy}
+use Rattle.cbf_reader.specs.Found.{describedBy}
 use Rattle.cbf_reader.proofs.DescriptionLaws.{absent, there, found-at}
 use Rattle.cbf_reader.proofs.describe.describe.Statement.{statement}
 use Rattle.cbf_reader.proofs.describe.describe.Tie as tie
 
 returns : tie.Need-returns
-unfolding foundOf describedBy
+unfolding describedBy
 returns c fs e = rw (absent (look TransferEncoding fs) (found-at fs TransferEncoding e) (c .if1 .taken))
 
 returns-2 : tie.Need-returns-2
-unfolding foundOf describedBy
-returns-2 c fs e = rw (there (look TransferEncoding fs) (found-at fs TransferEncoding e) (c .before .if1 .left), absent (look Size fs) (found-at fs Size e) (c .if2 .taken))
+unfolding describedBy
+returns-2 c fs e = rw (
+  there (look TransferEncoding fs) (found-at fs TransferEncoding e) (c .before .if1 .left),
+  absent (look Size fs) (found-at fs Size e) (c .if2 .taken),
+)
 
 returns-3 : tie.Need-returns-3
-unfolding foundOf describedBy
-returns-3 c fs e = rw (there (look TransferEncoding fs) (found-at fs TransferEncoding e) (c .before .before .if1 .left), there (look Size fs) (found-at fs Size e) (c .before .if2 .left), absent (look Elements fs) (found-at fs Elements e) (c .if3 .taken))
+unfolding describedBy
+returns-3 c fs e = rw (
+  there (look TransferEncoding fs) (found-at fs TransferEncoding e) (c .before .before .if1 .left),
+  there (look Size fs) (found-at fs Size e) (c .before .if2 .left),
+  absent (look Elements fs) (found-at fs Elements e) (c .if3 .taken),
+)
 
 description-of-requires : tie.Need-description-of-requires
-description-of-requires c κs = (c .before .before .before .pre, omega (arith, c .before .before .before .pre .most Size), omega (arith, c .before .before .before .pre .most Elements))
+description-of-requires c κs =
+    let r = c .before .before .before .pre in
+    (r, omega (arith, r .most Size), omega (arith, r .most Elements))
 
 returns-4 : tie.Need-returns-4
-unfolding foundOf
-returns-4 c fs e = rw (there (look TransferEncoding fs) (found-at fs TransferEncoding e) (c .before .before .before .if1 .left), there (look Size fs) (found-at fs Size e) (c .before .before .if2 .left), there (look Elements fs) (found-at fs Elements e) (c .before .if3 .left)) (c .description-of .ensures fs e)
+returns-4 c fs e =
+    rw (
+      there (look TransferEncoding fs) (found-at fs TransferEncoding e) (c .before .before .before .if1 .left),
+      there (look Size fs) (found-at fs Size e) (c .before .before .if2 .left),
+      there (look Elements fs) (found-at fs Elements e) (c .before .if3 .left),
+    )
+    (c .description-of .ensures fs e)
 
 pub describe-spec : {M : Type 1} → statement M
 describe-spec =

@@ -9,44 +9,64 @@ use Rattle.cbf_format.specs.declared.KnownHeader.{KnownHeader}
 use Rattle.cbf_format.specs.declared.KnownHeader.the-variants.{ContentType, Kind, Id, Fastest, Second, Third}
 use Rattle.cbf_format.specs.Descriptions.{look, description, compressionOf, typeOf}
 use Rattle.cbf_reader.specs.Found.{foundOf}
-use Rattle.cbf_reader.proofs.DescriptionLaws.{given-or, given-few, dimension, found-at, Says, size-disagrees, dimensions-disagree, agree}
+use Rattle.cbf_reader.proofs.DescriptionLaws.{given-or, given-few, found-at, Says}
+use Rattle.cbf_reader.proofs.DescriptionLaws.{size-disagrees, dimensions-disagree, agree}
 use Rattle.cbf_reader.proofs.describe.description_of.Statement.{statement}
 use Rattle.cbf_reader.proofs.describe.description_of.Tie as tie
 
-says : (c : tie.After-given5) (fs : List (KnownHeader × ℕ)) → c .before .before .before .before .before .before .before .args .values ≡ foundOf fs
-    → let a = c .before .before .before .before .before .before .before .args in
-    Says (description (a .encoding) (a .size) (a .elements) fs) (c .before .before .before .before .before .compression .result) (c .before .before .before .element-type .result) (c .before .before .given3 .result) (c .before .given4 .result) (c .given5 .result)
+-- the start of the call
+abbrev start : tie.After-given5 → tie.Start
+start c = c .before .before .before .before .before .before .before
+
+abbrev after-kind : tie.After-given5 → tie.After-element-type
+after-kind c = c .before .before .before
+
+says : (c : tie.After-given5) (fs : List (KnownHeader × ℕ)) → start c .args .values ≡ foundOf fs
+    → let a = start c .args in
+    let k = after-kind c in
+    Says (description (a .encoding) (a .size) (a .elements) fs) (k .before .before .compression .result) (k .element-type .result)
+    (c .before .before .given3 .result) (c .before .given4 .result) (c .given5 .result)
 says c fs e =
-    let p = c .before .before .before .before .before .before .before .pre .0 in
+    let k = after-kind c in
+    let b = k .before .before in
     record {
-      compression-is = c .before .before .before .before .before .compression .ensures ∙ ap compressionOf (c .before .before .before .before .before .before .given .ensures ∙ given-or 0 (look ContentType fs) (found-at fs ContentType e));
-      type-is = c .before .before .before .element-type .ensures ∙ ap typeOf (c .before .before .before .before .given2 .ensures ∙ given-or 5 (look Kind fs) (found-at fs Kind e));
-      fastest-is = dimension (look Fastest fs) (c .before .before .given3 .ensures) (found-at fs Fastest e) (p .least Fastest (omega arith));
-      second-is = dimension (look Second fs) (c .before .given4 .ensures) (found-at fs Second e) (p .least Second (omega arith));
-      third-is = dimension (look Third fs) (c .given5 .ensures) (found-at fs Third e) (p .least Third (omega arith));
+      compression-is =
+          b .compression .ensures
+          ∙ ap compressionOf (b .before .given .ensures ∙ given-or 0 (look ContentType fs) (found-at fs ContentType e));
+      kind-is = k .element-type .ensures ∙ ap typeOf (k .before .given2 .ensures ∙ given-or 5 (look Kind fs) (found-at fs Kind e));
+      fastest-is = c .before .before .given3 .ensures ∙ given-or 0 (look Fastest fs) (found-at fs Fastest e);
+      second-is = c .before .given4 .ensures ∙ given-or 0 (look Second fs) (found-at fs Second e);
+      third-is = c .given5 .ensures ∙ given-or 0 (look Third fs) (found-at fs Third e);
     }
 
 returns : tie.Need-returns
-returns c fs e = size-disagrees (says (c .before .before) fs e) (sym (c .before .size-agrees .ensures) ∙ not-true _ (c .if1 .taken))
+returns c fs e =
+    let g = c .before .before in
+    size-disagrees (says g fs e) (sym (c .before .size-agrees .ensures) ∙ not-true _ (c .if1 .taken))
 
 dimensions-agree-requires : tie.Need-dimensions-agree-requires
 dimensions-agree-requires c κs =
-    let p = c .before .before .before .before .before .before .before .before .before .pre in (
-      given-few (c .before .before .before .before .given3 .ensures) (p .0 .most Fastest),
-      given-few (c .before .before .before .given4 .ensures) (p .0 .most Second),
-      given-few (c .before .before .given5 .ensures) (p .0 .most Third),
+    let g = c .before .before in
+    let p = start g .pre in (
+      given-few (g .before .before .given3 .ensures) (p .0 .most Fastest),
+      given-few (g .before .given4 .ensures) (p .0 .most Second),
+      given-few (g .given5 .ensures) (p .0 .most Third),
       p .2,
     )
 
 returns-2 : tie.Need-returns-2
 returns-2 c fs e =
-    dimensions-disagree (says (c .before .before .before .before) fs e) (sym (c .before .before .before .size-agrees .ensures) ∙ not-false _ (c .before .before .if1 .left))
-    (sym (c .before .dimensions-agree .ensures) ∙ not-true _ (c .if2 .taken))
+    let d = c .before in
+    let s = d .before .before in
+    dimensions-disagree (says (s .before) fs e) (sym (s .size-agrees .ensures) ∙ not-false _ (d .before .if1 .left))
+    (sym (d .dimensions-agree .ensures) ∙ not-true _ (c .if2 .taken))
 
 returns-3 : tie.Need-returns-3
 returns-3 c fs e =
-    agree (says (c .before .before .before .before .before .before) fs e) (sym (c .before .before .before .before .before .size-agrees .ensures) ∙ not-false _ (c .before .before .before .before .if1 .left))
-    (sym (c .before .before .before .dimensions-agree .ensures) ∙ not-false _ (c .before .before .if2 .left)) (c .before .encoding-of .ensures)
+    let d = c .before .before .before in
+    let s = d .before .before in
+    agree (says (s .before) fs e) (sym (s .size-agrees .ensures) ∙ not-false _ (d .before .if1 .left))
+    (sym (d .dimensions-agree .ensures) ∙ not-false _ (c .before .before .if2 .left)) (c .before .encoding-of .ensures)
     (c .given6 .ensures ∙ given-or 0 (look Id fs) (found-at fs Id e))
 
 pub description-of-spec : {M : Type 1} → statement M

@@ -1,11 +1,10 @@
-use mathlib.Core.Path.{refl, ap}
+use mathlib.Core.Path.{refl}
 use mathlib.Core.List.{List}
 use Prim.Native.Nat.{ℕ}
 use lib.Seq.{slice}
 use denote.Ref.{now}
 use borrow.Author.Needs.{needs}
 use Rattle.cbf_format.specs.Values.{knownHeaders}
-use Rattle.cbf_reader.specs.Values.{knownOf}
 use Rattle.cbf_reader.proofs.WordLaws.{names, call, first, next, found-header, absent-header}
 use Rattle.cbf_reader.proofs.header.known.Statement.{statement}
 use Rattle.cbf_reader.proofs.header.known.Tie as tie
@@ -29,14 +28,24 @@ known-spec =
     let p10 = next p9 refl (λ (c : tie.Else10). c .before .before .before) (λ c. c .before .is-word-in-any-case10 .ensures) (λ c. c .if10 .left) in
     tie.close
     (tie.spec
-    (λ c. search needs) (λ c κs. search needs) (λ c. ap knownOf (found-header knownHeaders (p0 .missing (c .before .before .before .before)) refl (c .before .is-word-in-any-case .ensures) (c .if1 .taken)))
-    (λ c. search needs) (λ c κs. call p1 (c .before) .pre) (λ c. ap knownOf (found-header knownHeaders (p1 .missing (c .before .before .before)) refl (c .before .is-word-in-any-case2 .ensures) (c .if2 .taken)))
-    (λ c. search needs) (λ c κs. call p2 (c .before) .pre) (λ c. ap knownOf (found-header knownHeaders (p2 .missing (c .before .before .before)) refl (c .before .is-word-in-any-case3 .ensures) (c .if3 .taken)))
-    (λ c. search needs) (λ c κs. call p3 (c .before) .pre) (λ c. ap knownOf (found-header knownHeaders (p3 .missing (c .before .before .before)) refl (c .before .is-word-in-any-case4 .ensures) (c .if4 .taken)))
-    (λ c. search needs) (λ c κs. call p4 (c .before) .pre) (λ c. ap knownOf (found-header knownHeaders (p4 .missing (c .before .before .before)) refl (c .before .is-word-in-any-case5 .ensures) (c .if5 .taken)))
-    (λ c. search needs) (λ c κs. call p5 (c .before) .pre) (λ c. ap knownOf (found-header knownHeaders (p5 .missing (c .before .before .before)) refl (c .before .is-word-in-any-case6 .ensures) (c .if6 .taken)))
-    (λ c. search needs) (λ c κs. call p6 (c .before) .pre) (λ c. ap knownOf (found-header knownHeaders (p6 .missing (c .before .before .before)) refl (c .before .is-word-in-any-case7 .ensures) (c .if7 .taken)))
-    (λ c. search needs) (λ c κs. call p7 (c .before) .pre) (λ c. ap knownOf (found-header knownHeaders (p7 .missing (c .before .before .before)) refl (c .before .is-word-in-any-case8 .ensures) (c .if8 .taken)))
-    (λ c. search needs) (λ c κs. call p8 (c .before) .pre) (λ c. ap knownOf (found-header knownHeaders (p8 .missing (c .before .before .before)) refl (c .before .is-word-in-any-case9 .ensures) (c .if9 .taken)))
-    (λ c. search needs) (λ c κs. call p9 (c .before) .pre) (λ c. ap knownOf (found-header knownHeaders (p9 .missing (c .before .before .before)) refl (c .before .is-word-in-any-case10 .ensures) (c .if10 .taken)))
-    (λ c. ap knownOf (absent-header knownHeaders (p10 .missing c) refl)))
+    (λ c. search needs) (λ c κs. search needs)
+    (λ c. found-header (p0 .missing (c .before .before .before .before)) refl (c .before .is-word-in-any-case .ensures) (c .if1 .taken))
+    (λ c. search needs) (λ c κs. call p1 (c .before) .pre)
+    (λ c. found-header (p1 .missing (c .before .before .before)) refl (c .before .is-word-in-any-case2 .ensures) (c .if2 .taken))
+    (λ c. search needs) (λ c κs. call p2 (c .before) .pre)
+    (λ c. found-header (p2 .missing (c .before .before .before)) refl (c .before .is-word-in-any-case3 .ensures) (c .if3 .taken))
+    (λ c. search needs) (λ c κs. call p3 (c .before) .pre)
+    (λ c. found-header (p3 .missing (c .before .before .before)) refl (c .before .is-word-in-any-case4 .ensures) (c .if4 .taken))
+    (λ c. search needs) (λ c κs. call p4 (c .before) .pre)
+    (λ c. found-header (p4 .missing (c .before .before .before)) refl (c .before .is-word-in-any-case5 .ensures) (c .if5 .taken))
+    (λ c. search needs) (λ c κs. call p5 (c .before) .pre)
+    (λ c. found-header (p5 .missing (c .before .before .before)) refl (c .before .is-word-in-any-case6 .ensures) (c .if6 .taken))
+    (λ c. search needs) (λ c κs. call p6 (c .before) .pre)
+    (λ c. found-header (p6 .missing (c .before .before .before)) refl (c .before .is-word-in-any-case7 .ensures) (c .if7 .taken))
+    (λ c. search needs) (λ c κs. call p7 (c .before) .pre)
+    (λ c. found-header (p7 .missing (c .before .before .before)) refl (c .before .is-word-in-any-case8 .ensures) (c .if8 .taken))
+    (λ c. search needs) (λ c κs. call p8 (c .before) .pre)
+    (λ c. found-header (p8 .missing (c .before .before .before)) refl (c .before .is-word-in-any-case9 .ensures) (c .if9 .taken))
+    (λ c. search needs) (λ c κs. call p9 (c .before) .pre)
+    (λ c. found-header (p9 .missing (c .before .before .before)) refl (c .before .is-word-in-any-case10 .ensures) (c .if10 .taken))
+    (λ c. absent-header (p10 .missing c) refl))

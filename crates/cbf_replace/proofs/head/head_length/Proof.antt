@@ -2,7 +2,6 @@
 use Prim.Native.Nat.{_≤_}
 use native.Mathlib.Omega.{arith}
 use borrow.Author.Needs.{needs}
-use Rattle.cbf_replace.specs.HeadTexts.{described}
 use Rattle.cbf_replace.proofs.HeadLaws.{head-length, type-short}
 use Rattle.cbf_replace.proofs.head.head_length.Statement.{statement}
 use Rattle.cbf_replace.proofs.head.head_length.Tie as tie
@@ -31,7 +30,7 @@ add-result-6 c = let h = short c in search needs
 returns : tie.Need-returns
 returns c =
     let a = c .before .before .before .before .before .before .before .before .before .before .before .args in
-    (omega (arith, head-length (described (a .d)) (a .size), c .type-length .ensures, c .before .optional-length4 .ensures .0, c .before .before .before .optional-length3 .ensures .0, c .before .before .before .before .before .optional-length2 .ensures .0, c .before .before .before .before .before .before .before .optional-length .ensures .0, c .before .before .before .before .before .before .before .before .before .digit-count2 .ensures .0, c .before .before .before .before .before .before .before .before .before .before .digit-count .ensures .0), let h = short c in search needs)
+    (omega (arith, head-length (a .d) (a .size), c .type-length .ensures, c .before .optional-length4 .ensures .0, c .before .before .before .optional-length3 .ensures .0, c .before .before .before .before .before .optional-length2 .ensures .0, c .before .before .before .before .before .before .before .optional-length .ensures .0, c .before .before .before .before .before .before .before .before .before .digit-count2 .ensures .0, c .before .before .before .before .before .before .before .before .before .before .digit-count .ensures .0), let h = short c in search needs)
 
 pub head-length-spec : {M : Type 1} → statement M
 head-length-spec =

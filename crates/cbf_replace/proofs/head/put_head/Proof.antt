@@ -3,7 +3,7 @@ use mathlib.Core.List.{List}
 use Prim.Native.Nat.{ℕ}
 use borrow.Author.Needs.{needs}
 use lib.ListN.{drop}
-use Rattle.cbf_replace.specs.HeadTexts.{described, headText}
+use Rattle.cbf_replace.specs.HeadTexts.{headText}
 use Rattle.cbf_replace.proofs.HeadLaws.{Written, written-none, written-more, written-all, written-length, next-fits, headPieces, head-pieces}
 use Rattle.cbf_replace.proofs.head.put_head.Statement.{statement}
 use Rattle.cbf_replace.proofs.head.put_head.Tie as tie
@@ -11,10 +11,10 @@ use Rattle.cbf_replace.proofs.head.put_head.Tie as tie
 -- the first k pieces are written
 abbrev Pieces : tie.Start → ℕ → ℕ → List ℕ → Type 0
 Pieces s k r new =
-    let a = s .args in Written (a .out .now) (a .at) (headText (described (a .d)) (a .size)) (drop k (headPieces (described (a .d)) (a .size))) r new
+    let a = s .args in Written (a .out .now) (a .at) (headText (a .d) (a .size)) (drop k (headPieces (a .d) (a .size))) r new
 
 none-yet : (s : tie.Start) → Pieces s 0 (s .args .at) (s .args .out .now)
-none-yet s = let a = s .args in written-none (headPieces (described (a .d)) (a .size)) (head-pieces (described (a .d)) (a .size)) (s .pre)
+none-yet s = let a = s .args in written-none (headPieces (a .d) (a .size)) (head-pieces (a .d) (a .size)) (s .pre)
 
 -- after a call: where the function started, and what is written
 

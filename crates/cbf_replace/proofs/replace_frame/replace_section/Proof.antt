@@ -2,7 +2,6 @@
 use mathlib.Core.Path.{sym, _∙_}
 use borrow.Author.Needs.{needs}
 use Rattle.cbf_pixels.specs.Pixels.{packByteOffset}
-use Rattle.cbf_replace.specs.HeadTexts.{described}
 use Rattle.cbf_replace.specs.NewFiles.{fileWith}
 use Rattle.cbf_replace.proofs.NewFileLaws.{wrong-count, pixel-outside, frame-packed, frame-fits}
 use Rattle.cbf_replace.proofs.replace_frame.replace_section.Statement.{statement}
@@ -11,19 +10,19 @@ use Rattle.cbf_replace.proofs.replace_frame.replace_section.Tie as tie
 returns : tie.Need-returns
 returns c =
     let a = c .before .before .before .before .args in
-    wrong-count (described (a .s .description)) (a .frame .now) (fileWith (a .file .now) (a .s) (packByteOffset (a .frame .now))) (a .out .now) (c .if1 .taken)
+    wrong-count (a .s .description) (a .frame .now) (fileWith (a .file .now) (a .s) (packByteOffset (a .frame .now))) (a .out .now) (c .if1 .taken)
 
 replace-packed-requires : tie.Need-replace-packed-requires
 replace-packed-requires c κs =
     let m = c .before .before .before .before in
     let s = m .before .before .before .before .before in
-    (s .pre, frame-packed (described (s .args .s .description)) (s .args .frame .now) (s .args .out .now) (s .args .out .now) (sym (c .before .before .size .given .1) ∙ m .octet-count .ensures))
+    (s .pre, frame-packed (s .args .s .description) (s .args .frame .now) (s .args .out .now) (s .args .out .now) (sym (c .before .before .size .given .1) ∙ m .octet-count .ensures))
 
 returns-2 : tie.Need-returns-2
 returns-2 c =
     let m = c .before .before in
     let a = m .before .before .before .before .before .args in
-    pixel-outside (described (a .s .description)) (a .frame .now) (fileWith (a .file .now) (a .s) (packByteOffset (a .frame .now))) (a .out .now) (m .before .if1 .left)
+    pixel-outside (a .s .description) (a .frame .now) (fileWith (a .file .now) (a .s) (packByteOffset (a .frame .now))) (a .out .now) (m .before .if1 .left)
     (sym (c .enum-told .given .1) ∙ m .octet-count .ensures)
 
 returns-3 : tie.Need-returns-3
@@ -31,7 +30,7 @@ returns-3 c =
     let p = c .before .before in
     let m = p .before .before .before .before .before in
     let a = m .before .before .before .before .before .args in
-    frame-fits (described (a .s .description)) (a .frame .now) (fileWith (a .file .now) (a .s) (packByteOffset (a .frame .now))) (a .out .now) (m .before .if1 .left)
+    frame-fits (a .s .description) (a .frame .now) (fileWith (a .file .now) (a .s) (packByteOffset (a .frame .now))) (a .out .now) (m .before .if1 .left)
     (sym (p .before .before .before .size .given .1) ∙ m .octet-count .ensures)
     (p .replace-packed .ensures)
 
