@@ -1,14 +1,20 @@
-// The calls on a file: its sections with their octets and pixels, its listing and its catalogue; and packing. What is listed and catalogued
-// is defined in cbf_format; the functions here write it to lent memory.
-mod entries;
-mod entry;
-mod lines;
-mod listing;
-mod little;
-mod section_line;
-mod write_catalogue;
-
-pub use cbf_pixels::pack;
+// The calls on a file: its sections with their octets and pixels, its listing and its catalogue, a frame replaced;
+// and packing and unpacking alone. No call has a `requires`; the types that their contracts name are handed on with
+// them.
+pub use cbf_answers::Answer;
+pub use cbf_answers::Refusal;
+pub use cbf_catalogue::catalogue;
+pub use cbf_format::Description;
+pub use cbf_format::Encoding;
+pub use cbf_format::Numbered;
+pub use cbf_format::Range;
+pub use cbf_format::Section;
+pub use cbf_listing::list;
+pub use cbf_listing::listing_or_refusal;
+pub use cbf_listing::refusal_line;
+pub use cbf_pack::pack;
+pub use cbf_pixels::Compression;
+pub use cbf_pixels::ElementType;
 pub use cbf_replace::replace;
 pub use cbf_sections::OctetsPlace;
 pub use cbf_sections::octets;
@@ -17,7 +23,3 @@ pub use cbf_sections::octets_at;
 pub use cbf_sections::read;
 pub use cbf_sections::section;
 pub use cbf_sections::unpack;
-pub use listing::list;
-pub use listing::listing_or_refusal;
-pub use listing::refusal_line;
-pub use write_catalogue::catalogue;

@@ -1,5 +1,6 @@
--- The word that a C call returns holds the number and the value apart, and fits; and where the octets of a section start. Assumes nothing.
-use Prim.Native.Nat.{ℕ, _+_, _*_, _/_, _%_, _^_, _<_, _≤_}
+-- The word that a C call returns holds the number and the value apart, and fits; and where the octets of a section
+-- start. Assumes nothing.
+use Prim.Native.Nat.{ℕ, _/_, _%_, _^_, _<_, _≤_}
 use native.Mathlib.Omega.{arith}
 use mathlib.Core.Path.{_≡_, refl, ap, ap₂, subst, _∙_}
 use mathlib.Core.List.{List}
@@ -12,18 +13,15 @@ use borrow.Author.Tests.{leb-true}
 use Rattle.cbf_pixels.specs.declared.ElementType.{ElementType}
 use Rattle.cbf_pixels.specs.declared.Compression.{Compression}
 use Rattle.cbf_capi.specs.declared.Element.{Element}
-use Rattle.cbf_capi.specs.declared.Element.the-variants as E
 use Rattle.cbf_capi.specs.declared.Compressed.{Compressed}
-use Rattle.cbf_capi.specs.declared.Compressed.the-variants as C
-use Rattle.cbf_pixels.specs.Octets.{pick}
 use Rattle.cbf_pixels.specs.Pixels.{least, greatest, allWithin, packByteOffset}
-use Rattle.cbf_pixels.specs.Answers.{Outcome, gives, refuses, isSome, pixelLimit, octetLimit, written, packOutcome, packOutput, unpackPixels, unpackOutcome, unpackOutput}
+use Rattle.cbf_answers.specs.Answers.{Outcome, gives, refuses, written}
+use Rattle.cbf_pixels.specs.PixelCalls.{isSome, packOutcome, packOutput, unpackPixels, unpackOutcome, unpackOutput}
+use Rattle.cbf_answers.specs.Limits.{pixelLimit, octetLimit, lineLimit, fileLimit}
 use Rattle.cbf_walk.specs.Reading.{Item, Reading, good}
-use Rattle.cbf_walk.specs.Reading as R
-use Rattle.cbf_format.specs.Lines.{lineLimit}
 use Rattle.cbf_format.specs.declared.Encoding.{Encoding}
 use Rattle.cbf_format.specs.declared.Encoding.the-variants.{Binary, Base64}
-use Rattle.cbf_format.specs.Sections.{Section, fileLimit}
+use Rattle.cbf_format.specs.Sections.{Section}
 use Rattle.cbf_format.specs.Files.{State, Tree, read}
 use Rattle.cbf_format.specs.Listing.{Placed, sections, numbered, position, listing}
 use Rattle.cbf_format.specs.Catalogue.{catalogue, longName}
@@ -31,15 +29,21 @@ use Rattle.cbf_format.proofs.FileLaws.{accepted}
 use Rattle.cbf_format.proofs.PlaceLaws.{read-place, read-limit, long-name-place}
 use Rattle.cbf_format.proofs.ListingLaws.{few-sections, listing-short}
 use Rattle.cbf_format.proofs.OctetLaws.{DataAt, data-at, position-in, binary-octets, octet-count, few-elements}
-use Rattle.cbf_sections.specs.SectionCalls.{Result, refusal, value, orMissing, sectionOf, ofSection, sectionOutcome, readOutcome}
-use Rattle.cbf_sections.specs.SectionCalls.{Octets, octetsFor, octetsOf, Place, octetsPlace, octetsOutcome, frameOf, frameOutcome}
+use Rattle.cbf_sections.specs.SectionCalls.{Result, refusal, value, orMissing, sectionNumbered, ofSection}
+use Rattle.cbf_sections.specs.SectionCalls.{sectionOutcome, readOutcome, OctetsAnswer, octetsFor, octetsOf, Place}
+use Rattle.cbf_sections.specs.SectionCalls.{octetsPlace, octetsOutcome, frameOf, frameOutcome}
 use Rattle.cbf_sections.proofs.SectionCallLaws.{placeOutcome, place-outcome}
-use Rattle.cbf_write.specs.Rooms.{roomFor}
+use Rattle.cbf_answers.specs.Rooms.{roomFor}
 use Rattle.cbf_format.specs.House.{replacedFile}
-use Rattle.cbf_replace.specs.ReplaceCalls.{frameFits, roomForFile, replacePacked, replaceFitting, replaceFor, replaceOutcome}
-use Rattle.cbf.specs.Outcomes.{listOutcome, cataloguedOr, catalogueOutcome}
-use Rattle.cbf.proofs.CatalogueLaws.{catalogue-short}
+use Rattle.cbf_replace.specs.ReplaceCalls.{frameFits, roomForFile, replacePacked, replaceFitting, replaceFor}
+use Rattle.cbf_replace.specs.ReplaceCalls.{replaceOutcome}
+use Rattle.cbf_listing.specs.Listing.{listOutcome}
+use Rattle.cbf_catalogue.specs.WriteCatalogue.{cataloguedOr, catalogueOutcome}
+use Rattle.cbf_catalogue.proofs.WriteCatalogueLaws.{catalogue-short}
 use Rattle.cbf_capi.specs.Words.{packCall, unpackCall, unpackedBy, octetsStart, word}
+use Rattle.cbf_capi.specs.declared.Element.the-variants as E
+use Rattle.cbf_capi.specs.declared.Compressed.the-variants as C
+use Rattle.cbf_walk.specs.Reading as R
 
 -- document 01's number, 0 for none, and the place or the length
 abbrev pub numberOf : Outcome → ℕ
@@ -63,13 +67,12 @@ refused : (number : ℕ) → number < 2 ^ 32 → Halves (refuses number 0)
 refused number h = halves (refuses number 0) h (omega arith)
 
 -- one answer where the test holds, else another
-picked : (b : Bool) (x y : Outcome) → Halves y → (b ≡ true → Halves x) → Halves (pick b x y)
-unfolding pick
+picked : (b : Bool) (x y : Outcome) → Halves y → (b ≡ true → Halves x) → Halves (cond b x y)
 picked true x y h f = f refl
 picked false x y h f = h
 
 -- a length where the test holds, else a refusal
-tested : (b : Bool) (x : Outcome) (number : ℕ) → number < 2 ^ 32 → (b ≡ true → Halves x) → Halves (pick b x (refuses number 0))
+tested : (b : Bool) (x : Outcome) (number : ℕ) → number < 2 ^ 32 → (b ≡ true → Halves x) → Halves (cond b x (refuses number 0))
 tested b x number h f = picked b x (refuses number 0) (refused number h) f
 
 given : (n limit : ℕ) → limit < 2 ^ 32 → leb n limit ≡ true → Halves (gives n)
@@ -139,10 +142,10 @@ count-halves file = go (read lineLimit file) refl
 -- what is answered for a section: reading's refusal, 12, or what holds of each section of the file
 section-halves : (file : List ℕ) (n : ℕ) (f : Placed → Outcome)
     → ((p : Placed) → DataAt lineLimit file p → length file ≤ fileLimit → Halves (f p))
-    → Halves (sectionOutcome (sectionOf (read lineLimit file) n) f)
+    → Halves (sectionOutcome (sectionNumbered (read lineLimit file) n) f)
 section-halves file n f each = go (read lineLimit file) refl
   where
-    go : (r : Reading (Item State Section)) → read lineLimit file ≡ r → Halves (sectionOutcome (sectionOf r n) f)
+    go : (r : Reading (Item State Section)) → read lineLimit file ≡ r → Halves (sectionOutcome (sectionNumbered r n) f)
     go (R.refused k p) e = unread file k p e
     go (good its) e = by (numbered n (sections 0 its)) refl
       where
@@ -151,7 +154,7 @@ section-halves file n f each = go (read lineLimit file) refl
         by (some p) q = each p (data-at lineLimit n file its p e q) (accepted lineLimit file its e .not-long)
 
 -- the number of octets, as an answer for the section
-octets-answer : (r : Result Placed) (f : Placed → Result Octets)
+octets-answer : (r : Result Placed) (f : Placed → Result OctetsAnswer)
     → sectionOutcome r (λ p. octetsOutcome (f p)) ≡ octetsOutcome (ofSection r f)
 octets-answer (refusal k p) f = refl
 octets-answer (value p) f = refl
@@ -159,7 +162,7 @@ octets-answer (value p) f = refl
 octets-halves : (file : List ℕ) (n : ℕ) → Halves (octetsOutcome (octetsOf (read lineLimit file) n))
 unfolding octetsOf
 octets-halves file n =
-    subst Halves (octets-answer (sectionOf (read lineLimit file) n) _)
+    subst Halves (octets-answer (sectionNumbered (read lineLimit file) n) _)
     (section-halves file n _ (λ p d l. go p d l (p .section .description .encoding) refl))
   where
     go : (p : Placed) → DataAt lineLimit file p → length file ≤ fileLimit → (e : Encoding)
@@ -195,7 +198,7 @@ abbrev pub startAt : Result Place → ℕ → ℕ
 startAt (refusal k p) old = old
 startAt (value a) old = a .start
 
-start-at : (o : Result Octets) (old : ℕ) → startAt (octetsPlace o) old ≡ octetsStart o old
+start-at : (o : Result OctetsAnswer) (old : ℕ) → startAt (octetsPlace o) old ≡ octetsStart o old
 start-at (refusal k p) old = refl
 start-at (value o) old = refl
 
@@ -223,12 +226,20 @@ module _ (e : Element) (ps : List ℤ) (out : List ℕ) where
 
   pub pack-unknown : (r : ℕ) → r ≡ word (refuses 14 0) → E.Unknown ≡ e → PackSays r out
   unfolding PackSays packCall written
-  pack-unknown r w q = (w ∙ ap (λ (x : Element). word (packCall x ps (length out))) q, ap (λ (x : Element). written (packCall x ps (length out)) (packByteOffset ps) out) q)
+  pack-unknown r w q = (
+    w ∙ ap (λ (x : Element). word (packCall x ps (length out))) q,
+    ap (λ (x : Element). written
+        (packCall x ps (length out)) (packByteOffset ps) out) q,
+  )
 
-  pub pack-known : (t : ElementType) → E.Known t ≡ e → (r : ℕ) (o : Outcome) (out′ : List ℕ) → r ≡ word o → o ≡ packOutcome t ps (length out) → out′ ≡ packOutput t ps out → PackSays r out′
+  pub pack-known : (t : ElementType) → E.Known t ≡ e → (r : ℕ) (o : Outcome) (out′ : List ℕ) → r ≡ word o → o
+      ≡ packOutcome t ps (length out) → out′ ≡ packOutput t ps out → PackSays r out′
   unfolding PackSays packCall packOutput
-  pack-known t q r o out′ w a b =
-      (w ∙ ap word a ∙ ap (λ (x : Element). word (packCall x ps (length out))) q, b ∙ ap (λ (x : Element). written (packCall x ps (length out)) (packByteOffset ps) out) q)
+  pack-known t q r o out′ w a b = (
+    w ∙ ap word a ∙ ap (λ (x : Element). word (packCall x ps (length out))) q,
+    b
+        ∙ ap (λ (x : Element). written (packCall x ps (length out)) (packByteOffset ps) out) q,
+  )
 
 module _ (e : Element) (c : Compressed) (n : ℕ) (os : List ℕ) (out : List ℤ) where
   unfoldable pub UnpackSays : ℕ → List ℤ → Type 0
@@ -246,8 +257,13 @@ module _ (e : Element) (c : Compressed) (n : ℕ) (os : List ℕ) (out : List �
   unfolding unpackCall
   unpack-no-compression r w t q u = unpack-refused r w (ap₂ (λ (x : Element) (y : Compressed). unpackCall x y n os (length out)) q u)
 
-  pub unpack-known : (t : ElementType) (k : Compression) → E.Known t ≡ e → C.Known k ≡ c → (r : ℕ) (o : Outcome) (out′ : List ℤ) → r ≡ word o → o ≡ unpackOutcome k t n os (length out) → out′ ≡ unpackOutput k t n os out
+  pub unpack-known : (t : ElementType) (k : Compression) → E.Known t ≡ e → C.Known k ≡ c → (r : ℕ) (o : Outcome)
+      (out′ : List ℤ) → r ≡ word o → o ≡ unpackOutcome k t n os (length out) → out′ ≡ unpackOutput k t n os out
       → UnpackSays r out′
   unfolding UnpackSays unpackCall unpackedBy unpackOutput
-  unpack-known t k q u r o out′ w a b =
-      (w ∙ ap word a ∙ ap₂ (λ (x : Element) (y : Compressed). word (unpackCall x y n os (length out))) q u, b ∙ ap₂ (λ (x : Element) (y : Compressed). written (unpackCall x y n os (length out)) (unpackedBy x y n os) out) q u)
+  unpack-known t k q u r o out′ w a b = (
+    w ∙ ap word a ∙ ap₂ (λ (x : Element) (y : Compressed). word (unpackCall x y n os (length out))) q u,
+    b
+        ∙ ap₂ (λ (x : Element) (y : Compressed). written (unpackCall x y n os (length out)) (unpackedBy x y n os)
+        out) q u,
+  )

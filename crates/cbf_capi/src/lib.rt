@@ -1,22 +1,24 @@
-// The library for C, and whatever calls C: include/cbf.h says what a caller owes. Each function returns a word: the upper
-// 32 bits are the refusal number, 0 for none; the lower 32 the place of a refusal, or the length of the answer.
+// The library for C, and whatever calls C: include/cbf.h says what a caller owes. Each function returns a word: the
+// upper 32 bits are the refusal number, 0 for none; the lower 32 the place of a refusal, or the length of the answer.
 use cbf::OctetsPlace;
-use cbf_format::LINE_LIMIT;
-use cbf_pixels::Answer;
+use cbf_answers::Answer;
+use cbf_answers::LINE_LIMIT;
 use cbf_pixels::Compression;
 use cbf_pixels::ElementType;
 ghost use mathlib.Core.Path.{_≡_};
 ghost use Prim.Native.Nat.{_<_, _^_};
 ghost use lib.ListN.{length};
 ghost use Rattle.cbf_pixels.specs.Pixels.{packByteOffset};
-ghost use Rattle.cbf_pixels.specs.Answers.{refuses, outcome, written};
-ghost use Rattle.cbf_format.specs.Lines.{lineLimit};
+ghost use Rattle.cbf_answers.specs.Answers.{refuses, outcome, written};
+ghost use Rattle.cbf_answers.specs.Limits.{lineLimit};
 ghost use Rattle.cbf_format.specs.Files.{read};
 ghost use Rattle.cbf_format.specs.Listing.{listing};
-ghost use Rattle.cbf.specs.Outcomes.{listOutcome, catalogueOutcome, catalogueText};
+ghost use Rattle.cbf_listing.specs.Listing.{listOutcome};
+ghost use Rattle.cbf_catalogue.specs.WriteCatalogue.{catalogueOutcome, catalogueText};
 ghost use Rattle.cbf_sections.specs.SectionCalls.{readOutcome, octetsOf, octetsOutcome, frameOutcome, framePixels};
 ghost use Rattle.cbf_replace.specs.ReplaceCalls.{replaceOutcome, replacedBy};
-ghost use Rattle.cbf_capi.specs.Words.{element, compressed, packCall, unpackCall, unpackedBy, octetsStart, word};
+ghost use Rattle.cbf_capi.specs.Words.{element, compressed, packCall, unpackCall, unpackedBy, octetsStart};
+ghost use Rattle.cbf_capi.specs.Words.{word};
 
 pub enum Element {
     Unknown,
@@ -74,13 +76,15 @@ fn refused(number: u32) -> u64
 // Packs pixels by the byte-offset rule.
 #[no_mangle]
 pub extern "C" fn cbf_pack(element_type: u8, pixels: &[i64], out: &mut [u8]) -> u64
-    ensures answer { λ r. ⌜ r ≡ word (packCall (element «element_type») (now (pixels .entry)) (length (now (out .entry)))) ⌝ }
-    ensures output { λ _. ⌜ now (out .exit) ≡ written (packCall (element «element_type») (now (pixels .entry)) (length (now (out .entry)))) (packByteOffset (now (pixels .entry))) (now (out .entry)) ⌝ }
+    ensures answer { λ r. ⌜ r ≡ word (packCall (element «element_type») (now (pixels .entry))
+        (length (now (out .entry)))) ⌝ }
+    ensures output { λ _. ⌜ now (out .exit) ≡ written (packCall (element «element_type») (now (pixels .entry))
+        (length (now (out .entry)))) (packByteOffset (now (pixels .entry))) (now (out .entry)) ⌝ }
 {
     let known = element_of(element_type);
     match known {
         Element::Unknown => refused(14),
-        Element::Known(kind) => word_of(cbf_pixels::pack(kind, pixels, out)),
+        Element::Known(kind) => word_of(cbf_pack::pack(kind, pixels, out)),
     }
 }
 
@@ -93,8 +97,12 @@ pub extern "C" fn cbf_unpack_octets(
     count: usize,
     pixels: &mut [i64],
 ) -> u64
-    ensures answer { λ r. ⌜ r ≡ word (unpackCall (element «element_type») (compressed compression) count (now (octets .entry)) (length (now (pixels .entry)))) ⌝ }
-    ensures output { λ _. ⌜ now (pixels .exit) ≡ written (unpackCall (element «element_type») (compressed compression) count (now (octets .entry)) (length (now (pixels .entry)))) (unpackedBy (element «element_type») (compressed compression) count (now (octets .entry))) (now (pixels .entry)) ⌝ }
+    ensures answer { λ r. ⌜ r ≡ word (unpackCall (element «element_type») (compressed compression) count
+        (now (octets .entry)) (length (now (pixels .entry)))) ⌝ }
+    ensures output { λ _. ⌜ now (pixels .exit) ≡ written (unpackCall (element «element_type»)
+        (compressed compression) count (now (octets .entry)) (length (now (pixels .entry))))
+        (unpackedBy (element «element_type») (compressed compression) count (now (octets .entry)))
+        (now (pixels .entry)) ⌝ }
 {
     let known = element_of(element_type);
     let compressed_by = compression_of(compression);
@@ -102,7 +110,7 @@ pub extern "C" fn cbf_unpack_octets(
         Element::Unknown => refused(13),
         Element::Known(kind) => match compressed_by {
             Compressed::Unknown => refused(13),
-            Compressed::Known(by) => word_of(cbf_pixels::unpack(by, kind, octets, count, pixels)),
+            Compressed::Known(by) => word_of(cbf_unpack::unpack(by, kind, octets, count, pixels)),
         },
     }
 }
@@ -119,7 +127,8 @@ pub extern "C" fn cbf_count(file: &[u8]) -> u64
 #[no_mangle]
 pub extern "C" fn cbf_octets(file: &[u8], section: usize, start: &mut u64) -> u64
     ensures answer { λ r. ⌜ r ≡ word (octetsOutcome (octetsOf (read lineLimit (now (file .entry))) section)) ⌝ }
-    ensures start { λ _. ⌜ now (start .exit) ≡ octetsStart (octetsOf (read lineLimit (now (file .entry))) section) (now (start .entry)) ⌝ }
+    ensures start { λ _. ⌜ now (start .exit) ≡ octetsStart (octetsOf (read lineLimit (now (file .entry))) section)
+        (now (start .entry)) ⌝ }
 {
     let place = cbf::octets_at(file, LINE_LIMIT, section);
     match place {
@@ -134,8 +143,11 @@ pub extern "C" fn cbf_octets(file: &[u8], section: usize, start: &mut u64) -> u6
 // Unpacks the frame of a section.
 #[no_mangle]
 pub extern "C" fn cbf_unpack(file: &[u8], section: usize, pixels: &mut [i64]) -> u64
-    ensures answer { λ r. ⌜ r ≡ word (frameOutcome (read lineLimit (now (file .entry))) section (length (now (pixels .entry)))) ⌝ }
-    ensures output { λ _. ⌜ now (pixels .exit) ≡ written (frameOutcome (read lineLimit (now (file .entry))) section (length (now (pixels .entry)))) (framePixels (read lineLimit (now (file .entry))) section) (now (pixels .entry)) ⌝ }
+    ensures answer { λ r. ⌜ r ≡ word (frameOutcome (read lineLimit (now (file .entry))) section
+        (length (now (pixels .entry)))) ⌝ }
+    ensures output { λ _. ⌜ now (pixels .exit) ≡ written (frameOutcome (read lineLimit (now (file .entry))) section
+        (length (now (pixels .entry)))) (framePixels (read lineLimit (now (file .entry))) section)
+        (now (pixels .entry)) ⌝ }
 {
     word_of(cbf::unpack(file, LINE_LIMIT, section, pixels))
 }
@@ -144,7 +156,8 @@ pub extern "C" fn cbf_unpack(file: &[u8], section: usize, pixels: &mut [i64]) ->
 #[no_mangle]
 pub extern "C" fn cbf_listing(file: &[u8], out: &mut [u8]) -> u64
     ensures answer { λ r. ⌜ r ≡ word (listOutcome (read lineLimit (now (file .entry))) (length (now (out .entry)))) ⌝ }
-    ensures output { λ _. ⌜ now (out .exit) ≡ written (listOutcome (read lineLimit (now (file .entry))) (length (now (out .entry)))) (listing (read lineLimit (now (file .entry)))) (now (out .entry)) ⌝ }
+    ensures output { λ _. ⌜ now (out .exit) ≡ written (listOutcome (read lineLimit (now (file .entry)))
+        (length (now (out .entry)))) (listing (read lineLimit (now (file .entry)))) (now (out .entry)) ⌝ }
 {
     word_of(cbf::list(file, LINE_LIMIT, out))
 }
@@ -152,8 +165,10 @@ pub extern "C" fn cbf_listing(file: &[u8], out: &mut [u8]) -> u64
 // Writes the catalogue of a file.
 #[no_mangle]
 pub extern "C" fn cbf_catalogue(file: &[u8], out: &mut [u8]) -> u64
-    ensures answer { λ r. ⌜ r ≡ word (catalogueOutcome (read lineLimit (now (file .entry))) (length (now (out .entry)))) ⌝ }
-    ensures output { λ _. ⌜ now (out .exit) ≡ written (catalogueOutcome (read lineLimit (now (file .entry))) (length (now (out .entry)))) (catalogueText (read lineLimit (now (file .entry)))) (now (out .entry)) ⌝ }
+    ensures answer { λ r. ⌜ r ≡ word (catalogueOutcome (read lineLimit (now (file .entry)))
+        (length (now (out .entry)))) ⌝ }
+    ensures output { λ _. ⌜ now (out .exit) ≡ written (catalogueOutcome (read lineLimit (now (file .entry)))
+        (length (now (out .entry)))) (catalogueText (read lineLimit (now (file .entry)))) (now (out .entry)) ⌝ }
 {
     word_of(cbf::catalogue(file, LINE_LIMIT, out))
 }
@@ -161,8 +176,12 @@ pub extern "C" fn cbf_catalogue(file: &[u8], out: &mut [u8]) -> u64
 // Writes the file with the frame of a section replaced.
 #[no_mangle]
 pub extern "C" fn cbf_replace(file: &[u8], section: usize, frame: &[i64], out: &mut [u8]) -> u64
-    ensures answer { λ r. ⌜ r ≡ word (replaceOutcome (now (file .entry)) (read lineLimit (now (file .entry))) section (now (frame .entry)) (length (now (out .entry)))) ⌝ }
-    ensures output { λ _. ⌜ now (out .exit) ≡ written (replaceOutcome (now (file .entry)) (read lineLimit (now (file .entry))) section (now (frame .entry)) (length (now (out .entry)))) (replacedBy (now (file .entry)) (read lineLimit (now (file .entry))) section (now (frame .entry))) (now (out .entry)) ⌝ }
+    ensures answer { λ r. ⌜ r ≡ word (replaceOutcome (now (file .entry)) (read lineLimit (now (file .entry)))
+        section (now (frame .entry)) (length (now (out .entry)))) ⌝ }
+    ensures output { λ _. ⌜ now (out .exit) ≡ written (replaceOutcome (now (file .entry))
+        (read lineLimit (now (file .entry))) section (now (frame .entry)) (length (now (out .entry))))
+        (replacedBy (now (file .entry)) (read lineLimit (now (file .entry))) section (now (frame .entry)))
+        (now (out .entry)) ⌝ }
 {
     word_of(cbf::replace(file, LINE_LIMIT, section, frame, out))
 }

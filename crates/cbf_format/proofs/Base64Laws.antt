@@ -1,4 +1,5 @@
--- BASE64 text: octets that were written are read back, and only what octets are written as is read as them. Assumes nothing.
+-- BASE64 text: octets that were written are read back, and only what octets are written as is read as them. Assumes
+-- nothing.
 use mathlib.Core.Path.{_≡_, refl, sym, ap, _∙_}
 use mathlib.Core.Option.{Option, none, some, Option·none-ne-some}
 use mathlib.Core.Bool.{Bool, true, false, _&&_, cond, true≢false}

@@ -1,4 +1,5 @@
--- Printed numbers of at most 10 digits: they are read as the numbers they were printed from, and their bytes are text with no blank. Assumes nothing.
+-- Printed numbers of at most 10 digits: they are read as the numbers they were printed from, and their bytes are text
+-- with no blank. Assumes nothing.
 use mathlib.Core.Path.{_≡_, refl, ap, _∙_}
 use mathlib.Core.Option.{none, some}
 use mathlib.Core.Bool.{Bool, true, false, cond}
@@ -11,7 +12,7 @@ use borrow.Author.Tests.{le-leb, leb-true, lt-ltb, ltb-true, ne-eqb}
 use lib.ListN.{length, length-append}
 use Rattle.cbf_format.specs.Text.{digit, skip, addEnd, trimEnd, trim}
 use Rattle.cbf_format.specs.Lines.{refusedByte}
-use Rattle.cbf_format.specs.Values.{digits, decimal, number}
+use Rattle.cbf_format.specs.Values.{digits, decimal, decimalNumber}
 use Rattle.cbf_format.specs.Listing.{digitsOf, printed}
 use Rattle.cbf_format.proofs.LineTame.{and-true}
 
@@ -71,8 +72,8 @@ digitsOf-decimal (suc k) (suc f) n h l = go (ltb n 10) refl (λ h. digitsOf-deci
 pub decimal-printed : (n : ℕ) → n < 10_000_000_000 → Decimal 10 n (printed n)
 decimal-printed n h = digitsOf-decimal 9 19 n h (omega arith)
 
-pub number-printed : (n : ℕ) → n < 10_000_000_000 → number (printed n) ≡ some n
-unfolding number
+pub number-printed : (n : ℕ) → n < 10_000_000_000 → decimalNumber (printed n) ≡ some n
+unfolding decimalNumber
 number-printed n h =
     let u = decimal-printed n h in
     rw (le-leb 1 (length (printed n)) (u .least), le-leb (length (printed n)) 10 (u .most), u .all-digits) (ap (λ (k : ℕ). some k) (u .value))

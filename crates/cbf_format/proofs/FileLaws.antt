@@ -1,4 +1,5 @@
--- A step of reading is tame and moves, and what it says; reading gives a tree exactly where it is good and put together is the file. Assumes nothing.
+-- A step of reading is tame and moves, and what it says; reading gives a tree exactly where it is good and put
+-- together is the file. Assumes nothing.
 use mathlib.Core.Path.{_≡_, refl, sym, ap, _∙_}
 use mathlib.Core.Option.{Option, none, some, Option·none-ne-some, Option·some-ne-none}
 use mathlib.Core.Bool.{Bool, true, false, _&&_, cond}
@@ -9,16 +10,22 @@ use native.Mathlib.Omega.{arith}
 use lib.Dec.{leb}
 use borrow.Author.Tests.{le-leb, leb-true, leb-false}
 use lib.ListN.{length, drop, length-append}
-use Rattle.cbf_walk.specs.Parsers.{Res, ok, Parser, hd, ret, counted, screen, bind, Tame, Moves}
-use Rattle.cbf_walk.specs.Reading.{Item, refused, good, flat, readF, Good}
-use Rattle.cbf_walk.specs.Edits.{sections, Spans}
-use Rattle.cbf_walk.proofs.ParserLaws.{Unbound, ok-val, ok-num, unbind, bind-tame, bind-moves, ret-tame, uncount, counted-tame, counted-moves, unscreen, screen-tame, screen-moves}
+use Rattle.cbf_walk.specs.Parsers.{Res, ok, Parser, hd, ret, counted, screen, bind}
+use Rattle.cbf_walk.proofs.Tame.{Tame, Moves}
+use Rattle.cbf_walk.specs.Reading.{Item, refused, good, flat, readF}
+use Rattle.cbf_walk.proofs.Good.{Good}
+use Rattle.cbf_walk.proofs.Edits.{sectionCount, Spans}
+use Rattle.cbf_walk.proofs.ParserLaws.{Unbound, ok-val, ok-num, unbind, bind-tame, bind-moves, ret-tame, uncount}
+use Rattle.cbf_walk.proofs.ParserLaws.{counted-tame, counted-moves, unscreen, screen-tame, screen-moves}
 use Rattle.cbf_walk.proofs.ReadingLaws.{refused≢good, sound, complete}
 use Rattle.cbf_walk.proofs.EditLaws.{spans}
 use Rattle.cbf_format.specs.Text.{same}
 use Rattle.cbf_format.specs.Lines.{line, refusedByte, textLine}
-use Rattle.cbf_format.specs.Sections.{opening, fileLimit, Section, section}
-use Rattle.cbf_format.specs.Files.{refusedFirst, Field, first-line, outside, opened, inside, State, start, due, afterLine, afterSection, isOpened, isBoundary, oneTooMany, stepLine, sectionOr, afterStepLine, step, Tree, readSome, read}
+use Rattle.cbf_format.specs.Sections.{opening, Section, section}
+use Rattle.cbf_answers.specs.Limits.{fileLimit}
+use Rattle.cbf_format.specs.Files.{refusedFirst, Field, first-line, outside, opened, inside, State, start, due}
+use Rattle.cbf_format.specs.Files.{afterLine, afterSection, isOpened, isBoundary, oneTooMany, stepLine}
+use Rattle.cbf_format.specs.Files.{sectionOr, afterStepLine, step, Tree, readSome, read}
 use Rattle.cbf_format.proofs.LineTame.{line-tame, line-pos, line-hd, textLine-tame, and-true, same-eq}
 use Rattle.cbf_format.proofs.SectionTame.{section-tame}
 use Rattle.cbf_format.proofs.SectionLaws.{Closes, closes-later, data-says, Sectioned, sectioned}
@@ -131,7 +138,8 @@ module _ (limit : ℕ) (st t : State) (s : List ℕ) where
           }
 
       by : (u : U₁ none n) (b : Bool) → isBoundary st (u .val .0) ≡ b
-          → sectionOr b (bind (section limit (st .block) (u .val .1)) after) (ret (none, afterLine st (u .val .0) (u .val .1))) (drop (u .first) s) ≡ ok (none, t) (u .second)
+          → sectionOr b (bind (section limit (st .block) (u .val .1)) after)
+          (ret (none, afterLine st (u .val .0) (u .val .1))) (drop (u .first) s) ≡ ok (none, t) (u .second)
           → Passed limit st t s n
       by u true q h =
           let v = unbind (section limit (st .block) (u .val .1)) after (drop (u .first) s) (none, t) (u .second) h in
@@ -154,7 +162,8 @@ module _ (limit : ℕ) (st t : State) (s : List ℕ) where
           let d = data-says limit (i .description .encoding) (i .description .size) (drop (c .head) (drop k s)) (c .found) (c .rest) (c .did) in
           let f : k + c .head + c .found .lead ≡ i .first = ap (λ (z : Section). z .first) (c .is) in
           let w : k + c .head + c .found .width ≡ i .width = ap (λ (z : Section). z .width) (c .is) in
-          let nearer : Closes limit (drop k s) (c .head + c .found .width) (c .head + c .rest) = closes-later limit (c .head) (drop k s) (d .closes) refl refl in
+          let nearer : Closes limit (drop k s) (c .head + c .found .width) (c .head + c .rest) = closes-later limit
+          (c .head) (drop k s) (d .closes) refl refl in
           (omega (arith, f, w, d .lead), closes-later limit k s nearer (omega (arith, w)) (omega (arith, q, c .sum)))
 
       last : (u : U₁ (some i) n) (v : U₂ u) → isBoundary st (u .val .0) ≡ true → Lined (u .val) (u .first)
@@ -191,10 +200,12 @@ module _ (limit : ℕ) (st t : State) (s : List ℕ) where
       mid u v q l = last u v q l (sectioned limit (st .block) (u .first) (drop (u .first) s) i (v .first) (found u v l))
 
       by : (u : U₁ (some i) n) (b : Bool) → isBoundary st (u .val .0) ≡ b
-          → sectionOr b (bind (section limit (st .block) (u .val .1)) after) (ret (none, afterLine st (u .val .0) (u .val .1))) (drop (u .first) s) ≡ ok (some i, t) (u .second)
+          → sectionOr b (bind (section limit (st .block) (u .val .1)) after)
+          (ret (none, afterLine st (u .val .0) (u .val .1))) (drop (u .first) s) ≡ ok (some i, t) (u .second)
           → Took limit st t s i n
       by u false q h = absurd (Option·none-ne-some i (ap (λ (o : Option Section × State). o .0) (ok-val h)))
-      by u true q h = mid u (unbind (section limit (st .block) (u .val .1)) after (drop (u .first) s) (some i, t) (u .second) h) q (lined (u .val) (u .first) (u .did))
+      by u true q h = mid u (unbind (section limit (st .block) (u .val .1)) after (drop (u .first) s) (some i, t)
+          (u .second) h) q (lined (u .val) (u .first) (u .did))
 
       go : U₁ (some i) n → Took limit st t s i n
       go u = by u (isBoundary st (u .val .0)) refl (u .then-did)
@@ -239,7 +250,8 @@ accepted limit file its e = go (leb (length file) fileLimit) refl e
 
 pub accepts : (limit : ℕ) (file : List ℕ) (its : Tree) → Accepts limit file its → read limit file ≡ good its
 unfolding read
-accepts limit file its a = rw (le-leb (length file) fileLimit (a .not-long)) (nonempty file (a .not-empty) ∙ ap (readF 11 (step limit) due fileLimit 0 start) (sym (a .whole))
+accepts limit file its a = rw (le-leb (length file) fileLimit (a .not-long)) (nonempty file (a .not-empty)
+    ∙ ap (readF 11 (step limit) due fileLimit 0 start) (sym (a .whole))
     ∙ complete 11 (step limit) due its fileLimit 0 start (a .is-good) (omega (arith, a .not-long, ap length (a .whole))))
   where
     nonempty : (s : List ℕ) → 0 < length s → readSome limit s ≡ readF 11 (step limit) due fileLimit 0 start s
@@ -259,22 +271,23 @@ accepted-spans limit file its a = spans (λ (i : Section). i .width) (step limit
 
 -- ---- "Sections: at most 512"
 
-counts : (limit : ℕ) (its : Tree) (st : State) → Good (step limit) due st its → st .count ≤ 512 → st .count + sections its ≤ 512
-unfolding Good sections
+counts : (limit : ℕ) (its : Tree) (st : State) → Good (step limit) due st its → st .count ≤ 512 → st .count + sectionCount its ≤ 512
+unfolding Good sectionCount
 counts limit [] st g h = omega arith
 counts limit (it ∷ its) st g h = go (it .info) (it .next) (g .0) (λ h. counts limit its (it .next) (g .2) h)
   where
-    go : (o : Option Section) (t : State) → step limit st (it .bytes ++ flat its) ≡ ok (o, t) (length (it .bytes)) → (t .count ≤ 512 → t .count + sections its ≤ 512)
-        → st .count + sections (record { bytes = it .bytes; info = o; next = t } ∷ its) ≤ 512
+    go : (o : Option Section) (t : State) → step limit st (it .bytes ++ flat its) ≡ ok (o, t) (length (it .bytes))
+        → (t .count ≤ 512 → t .count + sectionCount its ≤ 512)
+        → st .count + sectionCount (record { bytes = it .bytes; info = o; next = t } ∷ its) ≤ 512
     go none t e ih =
         let c : t .count ≡ st .count = ap (λ (z : State). z .count) (passed limit st t (it .bytes ++ flat its) (length (it .bytes)) e .after) in
         omega (arith, c, ih (omega (arith, c, h)))
     go (some i) t e ih = one (took limit st t (it .bytes ++ flat its) i (length (it .bytes)) e)
       where
-        one : Took limit st t (it .bytes ++ flat its) i (length (it .bytes)) → st .count + suc (sections its) ≤ 512
+        one : Took limit st t (it .bytes ++ flat its) i (length (it .bytes)) → st .count + suc (sectionCount its) ≤ 512
         one k =
             let c : t .count ≡ suc (st .count) = ap (λ (z : State). z .count) (k .after) in
             omega (arith, c, ih (omega (arith, c, k .has-room)))
 
-pub sections-most : (limit : ℕ) (file : List ℕ) (its : Tree) → Accepts limit file its → sections its ≤ 512
+pub sections-most : (limit : ℕ) (file : List ℕ) (its : Tree) → Accepts limit file its → sectionCount its ≤ 512
 sections-most limit file its a = omega (arith, counts limit its start (a .is-good) (omega arith))

@@ -1,4 +1,5 @@
--- Header lines that are written, each ended 13 10, are read as themselves, and a line of a known header gives that header's value. Assumes nothing.
+-- Header lines that are written, each ended 13 10, are read as themselves, and a line of a known header gives that
+-- header's value. Assumes nothing.
 use mathlib.Core.Path.{_≡_, refl, ap, _∙_}
 use mathlib.Core.Option.{none, some, Option·none-ne-some}
 use mathlib.Core.Bool.{Bool, true, false, cond, not}
@@ -14,9 +15,10 @@ use Rattle.cbf_walk.specs.Parsers.{ok, ret, counted, onward}
 use Rattle.cbf_walk.proofs.ParserLaws.{bind-at, counted-ok}
 use Rattle.cbf_format.specs.Text.{blank, textual, trim}
 use Rattle.cbf_format.specs.Lines.{line, refusedByte}
-use Rattle.cbf_format.specs.Headers.{splitColon, someName, continues, malformed, headerLine, addLine, moreLines, headerLines, group}
+use Rattle.cbf_format.specs.Headers.{splitColon, someName, continues, malformed, headerLine, addLine, moreLines}
+use Rattle.cbf_format.specs.Headers.{headerLines, group}
 use Rattle.cbf_format.specs.declared.KnownHeader.{KnownHeader}
-use Rattle.cbf_format.specs.Values.{knownHeaders, named, valueOf}
+use Rattle.cbf_format.specs.Values.{knownHeaders, headerNamed, valueOf}
 use Rattle.cbf_format.specs.Descriptions.{found, look, judge}
 use Rattle.cbf_format.specs.House.{endedLines}
 use Rattle.cbf_format.proofs.LineTame.{unrefused}
@@ -47,7 +49,8 @@ pub record Written (limit : ℕ) (first : Bool) (l : List ℕ) : Type 0 where
   pub fine : refusedByte limit 0 l ≡ none
   pub formed : malformed first l ≡ false
 
-headerLine-ended : (limit most : ℕ) (first : Bool) (l r : List ℕ) → limit ≤ most → Written limit first l → headerLine most first (l ++ (13 ∷ 10 ∷ r)) ≡ ok l (length l + 2)
+headerLine-ended : (limit most : ℕ) (first : Bool) (l r : List ℕ) → limit ≤ most → Written limit first l
+    → headerLine most first (l ++ (13 ∷ 10 ∷ r)) ≡ ok l (length l + 2)
 unfolding headerLine
 headerLine-ended limit most first l r h w = rw (line-ended limit 0 l r (w .fine)) (rw (refused-more limit most 0 l h (w .fine), w .formed))
 
@@ -81,7 +84,8 @@ headerLines-ended limit most (suc f) first at ((x ∷ l) ∷ ls) r m h w =
     ∙ bind-at (onward (λ r. counted (headerLine most first r))) (moreLines (λ m. headerLines most f false m) at) (t ++ (13 ∷ 10 ∷ R)) R n
     (counted-ok (headerLine-ended limit most first t R m (w .0)))
     (drop-append-add t (13 ∷ 10 ∷ R) 2)
-    (bind-at (λ s. headerLines most f false (at + n) s) (λ hs. ret (addLine at t hs)) R (drop (length (endedLines ls) + 2) R) (length (endedLines ls) + 2) {m = 0}
+    (bind-at (λ s. headerLines most f false (at + n) s) (λ hs. ret (addLine at t hs)) R
+    (drop (length (endedLines ls) + 2) R) (length (endedLines ls) + 2) {m = 0}
     (headerLines-ended limit most f false (at + n) ls r m (omega arith) (w .1))
     refl
     refl)
@@ -95,11 +99,12 @@ pub record Gives (limit : ℕ) (k : KnownHeader) (n : ℕ) (l : List ℕ) : Type
   pub value : List ℕ
   pub formed : malformed true l ≡ false
   pub split : splitColon l ≡ some (name, value)
-  pub is-known : named knownHeaders name ≡ some k
+  pub is-known : headerNamed knownHeaders name ≡ some k
   pub is-value : valueOf k (trim value) ≡ some n
   pub fine : refusedByte limit 0 l ≡ none
 
--- at most so many lines, that can be written; they begin with a header; and with the headers found before, they are judged to be these
+-- at most so many lines, that can be written; they begin with a header; and with the headers found before, they are
+-- judged to be these
 pub record Say (limit most : ℕ) (ls : List (List ℕ)) (before after : List (KnownHeader × ℕ)) : Type 0 where
   pub few : length ls ≤ most
   pub written : AllWritten limit false ls

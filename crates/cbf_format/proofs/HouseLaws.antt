@@ -5,7 +5,7 @@ use mathlib.Core.Bool.{Bool, true, false}
 use mathlib.Core.List.{List, [], _∷_, _++_}
 use Prim.Native.Nat.{ℕ, zero, suc, _+_, _*_, _≤_, _<_}
 use native.Mathlib.Omega.{arith}
-use lib.Dec.{leb, ltb, eqb}
+use lib.Dec.{leb, ltb}
 use borrow.Author.Tests.{le-leb, leb-true, ltb-true, eq-eqb}
 use lib.ListN.{length}
 use Rattle.cbf_walk.specs.Parsers.{ok}
@@ -17,13 +17,15 @@ use Rattle.cbf_format.specs.Text.{bytes, trim}
 use Rattle.cbf_format.specs.Lines.{refusedByte}
 use Rattle.cbf_format.specs.Headers.{splitColon, malformed, group}
 use Rattle.cbf_format.specs.declared.KnownHeader.{KnownHeader}
-use Rattle.cbf_format.specs.declared.KnownHeader.the-variants.{TransferEncoding, Size, Elements, ContentType, Kind, ByteOrder, Id, Fastest, Second, Third}
-use Rattle.cbf_format.specs.Values.{number, between, knownHeaders, named, typeWords, valueOf}
+use Rattle.cbf_format.specs.declared.KnownHeader.the-variants.{TransferEncoding, Size, Elements, ContentType}
+use Rattle.cbf_format.specs.declared.KnownHeader.the-variants.{Kind, ByteOrder, Id, Fastest, Second, Third}
+use Rattle.cbf_format.specs.Values.{decimalNumber, between, knownHeaders, headerNamed, typeWords, valueOf}
 use Rattle.cbf_format.specs.declared.Description.{Description}
-use Rattle.cbf_format.specs.Descriptions.{found, ordinal, sameHeader, look, judge, dimensionsAgree, descriptionOf, description}
-use Rattle.cbf_format.specs.Descriptions.{optional, orZero, compressionOf, typeOf, described, orDisagrees, describes, verdictOf}
-use Rattle.cbf_format.specs.Descriptions.{verdict, concluded, headers}
-use Rattle.cbf_format.specs.Sections.{fileLimit}
+use Rattle.cbf_format.specs.Descriptions.{found, ordinal, sameHeader, look, judge, dimensionsAgree}
+use Rattle.cbf_format.specs.Descriptions.{descriptionOf, description, optional, orZero, compressionOf, typeOf}
+use Rattle.cbf_format.specs.Descriptions.{described, orDisagrees, describes, verdictOf, verdict, concluded}
+use Rattle.cbf_format.specs.Descriptions.{headers}
+use Rattle.cbf_answers.specs.Limits.{fileLimit, pixelLimit}
 use Rattle.cbf_format.specs.Listing.{printed}
 use Rattle.cbf_format.specs.Catalogue.{typeNumber}
 use Rattle.cbf_format.specs.House.{endedLines, numberLine, houseLines}
@@ -40,7 +42,7 @@ abbrev Seen : Type 0
 Seen = Bool × Option (List ℕ × List ℕ) × Option KnownHeader × Option ℕ × Option (ℕ × ℕ)
 
 abbrev seen : KnownHeader → List ℕ → List ℕ → List ℕ → Seen
-seen k l name value = (malformed true l, splitColon l, named knownHeaders name, valueOf k (trim value), refusedByte longest 0 l)
+seen k l name value = (malformed true l, splitColon l, headerNamed knownHeaders name, valueOf k (trim value), refusedByte longest 0 l)
 
 gives : (k : KnownHeader) (n : ℕ) (l name value : List ℕ) → seen k l name value ≡ (false, some (name, value), some k, some n, none) → Gives longest k n l
 gives k n l name value e = record {
@@ -62,7 +64,7 @@ start name = name ++ bytes ": "
 abbrev Names : KnownHeader → ℕ → ℕ → List ℕ → Type 0
 Names k least most name = (v : List ℕ)
     → _≡_ {A = Bool × Bool × Seen} (leb (length (start name)) 38, ltb most 10_000_000_000, seen k (start name ++ v) name (32 ∷ v))
-    (true, true, (false, some (name, 32 ∷ v), some k, between least most (number (trim v)), refusedByte longest (length (start name)) v))
+    (true, true, (false, some (name, 32 ∷ v), some k, between least most (decimalNumber (trim v)), refusedByte longest (length (start name)) v))
 
 -- what is found with the value of header k, if there is one
 abbrev adding : KnownHeader → Option ℕ → List (KnownHeader × ℕ) → List (KnownHeader × ℕ)
@@ -145,20 +147,20 @@ houseFound size d =
     ((Elements, d .elements) ∷ (ByteOrder, 1) ∷ (Kind, typeNumber (d .kind))
     ∷ adding Id (optional (d .id)) ((Size, size) ∷ (TransferEncoding, 0) ∷ (ContentType, 1) ∷ []))))
 
-module _ (size : ℕ) (d : Description) (known : Known d) (fits : size ≤ 1_073_741_824) where
+module _ (size : ℕ) (d : Description) (known : Known d) (fits : size ≤ fileLimit) where
   say-house : SayAll (houseLines size d) (houseFound size d)
   unfolding houseLines
   say-house =
       say-first (omega arith)
       (say-line (gives TransferEncoding 0 _ (bytes "Content-Transfer-Encoding") (bytes " BINARY") refl) refl
-      (say-number Size 0 1_073_741_824 (bytes "X-Binary-Size") (λ v. refl) (omega arith) fits refl
+      (say-number Size 0 fileLimit (bytes "X-Binary-Size") (λ v. refl) (omega arith) fits refl
       (say-optional Id 1 2_147_483_647 (bytes "X-Binary-ID") (λ v. refl) (d .id) (omega arith) (known .id-in) refl
       (say-line (gives-type (d .kind)) (simp look-other)
       (say-line (gives ByteOrder 1 _ (bytes "X-Binary-Element-Byte-Order") (bytes " LITTLE_ENDIAN") refl) (simp look-other)
-      (say-number Elements 0 67_108_864 (bytes "X-Binary-Number-of-Elements") (λ v. refl) (omega arith) (known .few) (simp look-other)
-      (say-optional Fastest 1 67_108_864 (bytes "X-Binary-Size-Fastest-Dimension") (λ v. refl) (d .fastest) (omega arith) (known .fastest-in) (simp look-other)
-      (say-optional Second 1 67_108_864 (bytes "X-Binary-Size-Second-Dimension") (λ v. refl) (d .second) (omega arith) (known .second-in) (simp look-other)
-      (say-optional Third 1 67_108_864 (bytes "X-Binary-Size-Third-Dimension") (λ v. refl) (d .third) (omega arith) (known .third-in) (simp look-other)
+      (say-number Elements 0 pixelLimit (bytes "X-Binary-Number-of-Elements") (λ v. refl) (omega arith) (known .few) (simp look-other)
+      (say-optional Fastest 1 pixelLimit (bytes "X-Binary-Size-Fastest-Dimension") (λ v. refl) (d .fastest) (omega arith) (known .fastest-in) (simp look-other)
+      (say-optional Second 1 pixelLimit (bytes "X-Binary-Size-Second-Dimension") (λ v. refl) (d .second) (omega arith) (known .second-in) (simp look-other)
+      (say-optional Third 1 pixelLimit (bytes "X-Binary-Size-Third-Dimension") (λ v. refl) (d .third) (omega arith) (known .third-in) (simp look-other)
       (say-none longest (houseFound size d)))))))))))
 
 -- ---- what the headers say
@@ -208,7 +210,7 @@ module _ (size : ℕ) (d : Description) where
       ∙ rw (le-leb (d .elements) size l, le-leb size (15 * d .elements) h, a)
 
 -- the headers of house form
-pub headers-house : (limit size : ℕ) (d : Description) (r : List ℕ) → 48 ≤ limit → Known d → size ≤ 1_073_741_824 → d .elements ≤ size → size ≤ 15 * d .elements
+pub headers-house : (limit size : ℕ) (d : Description) (r : List ℕ) → 48 ≤ limit → Known d → size ≤ fileLimit → d .elements ≤ size → size ≤ 15 * d .elements
     → headers limit fileLimit (endedLines (houseLines size d) ++ (13 ∷ 10 ∷ r)) ≡ ok (housed size d) (length (endedLines (houseLines size d)) + 2)
 unfolding headers verdict
 headers-house limit size d r m k fits low high =

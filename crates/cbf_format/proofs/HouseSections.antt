@@ -11,14 +11,17 @@ use borrow.Author.Tests.{lt-leb, lt-ltb, ltb-true}
 use lib.ListN.{length, drop, length-append, length-drop}
 use lib.Seq.{drop-at, drop-append-le, drop-append-add}
 use Rattle.cbf_walk.specs.Parsers.{ok, Parser, ret, counted, screenOr, blame, bind}
-use Rattle.cbf_walk.specs.Edits.{Lawful}
+use Rattle.cbf_walk.proofs.Edits.{Lawful}
 use Rattle.cbf_walk.proofs.ParserLaws.{bind-at, counted-ok}
 use Rattle.cbf_format.specs.Text.{textual}
-use Rattle.cbf_format.specs.Lines.{refusedByte, textLine, lineEnd, octets, word}
+use Rattle.cbf_format.specs.Lines.{refusedByte, textLine, lineEnd, exactly, literal}
 use Rattle.cbf_format.specs.declared.Description.{Description}
 use Rattle.cbf_format.specs.Descriptions.{headers}
-use Rattle.cbf_format.specs.Sections.{opening, closing, marker, fileLimit, lastBoundary, afterSpan, closed, closedAfter, binaryData, Section, sectionOf, section}
-use Rattle.cbf_format.specs.Files.{Field, first-line, outside, opened, inside, State, afterSection, isOpened, stepLine, afterStepLine, step}
+use Rattle.cbf_format.specs.Sections.{opening, closing, marker, lastBoundary, afterSpan, closed, closedAfter}
+use Rattle.cbf_format.specs.Sections.{binaryData, Section, sectionOf, section}
+use Rattle.cbf_answers.specs.Limits.{fileLimit}
+use Rattle.cbf_format.specs.Files.{Field, first-line, outside, opened, inside, State, afterSection, isOpened}
+use Rattle.cbf_format.specs.Files.{stepLine, afterStepLine, step}
 use Rattle.cbf_format.specs.House.{ended, endedLines, houseLines, house}
 use Rattle.cbf_format.proofs.LineTame.{octets-ok, word-ok}
 use Rattle.cbf_format.proofs.SectionTame.{closedWith, binaryOf, afterHeaders}
@@ -42,12 +45,17 @@ pub record Fits (d : Description) (os : List ℕ) : Type 0 where
   pub is-known : Known d
   pub low : d .elements ≤ length os
   pub high : length os ≤ 15 * d .elements
-  pub small : length os ≤ 1_073_741_824
+  pub small : length os ≤ fileLimit
 
 pub length-house : (d : Description) (os : List ℕ) → length (house d os) ≡ length (endedLines (houseLines (length os) d)) + length os + 70
 unfolding house
 length-house d os =
-    omega (arith, length-append (endedLines (houseLines (length os) d)) (13 ∷ 10 ∷ (marker ++ (os ++ (13 ∷ 10 ∷ closing)))), length-append os (13 ∷ 10 ∷ closing))
+    omega (
+      arith,
+      length-append (endedLines (houseLines (length os) d))
+          (13 ∷ 10 ∷ (marker ++ (os ++ (13 ∷ 10 ∷ closing)))),
+      length-append os (13 ∷ 10 ∷ closing),
+    )
 
 -- ---- the boundary line
 
@@ -80,7 +88,7 @@ closed-house : (limit : ℕ) (q t : List ℕ) (k : ℕ) → afterSpan limit q �
 unfolding closed lastBoundary lineEnd
 closed-house limit q t k e =
     bind-at (λ s. counted (lastBoundary s)) (closedWith limit) (13 ∷ 10 ∷ (closing ++ q)) q 33
-    (counted-ok (bind-at lineEnd (λ e. word closing) (13 ∷ 10 ∷ (closing ++ q)) (closing ++ q) 2 refl refl (word-ok closing q)))
+    (counted-ok (bind-at lineEnd (λ e. literal closing) (13 ∷ 10 ∷ (closing ++ q)) (closing ++ q) 2 refl refl (word-ok closing q)))
     refl
     (then-made (afterSpan limit) (λ e. 33) q e)
 
@@ -89,10 +97,10 @@ data-house : (limit : ℕ) (os q t : List ℕ) (k : ℕ) → afterSpan limit q �
 unfolding binaryData
 data-house limit os q t k e =
     let end : List ℕ = 13 ∷ 10 ∷ (closing ++ q) in
-    bind-at (λ s. blame 8 (word marker s)) (λ m. bind (octets (length os)) (closedAfter limit (length os))) (marker ++ (os ++ end)) (os ++ end) 4
+    bind-at (λ s. blame 8 (literal marker s)) (λ m. bind (exactly (length os)) (closedAfter limit (length os))) (marker ++ (os ++ end)) (os ++ end) 4
     (ap (blame 8) (word-ok marker (os ++ end)))
     refl
-    (bind-at (octets (length os)) (closedAfter limit (length os)) (os ++ end) end (length os) (octets-ok os end) (drop-at os end (length os) refl)
+    (bind-at (exactly (length os)) (closedAfter limit (length os)) (os ++ end) end (length os) (octets-ok os end) (drop-at os end (length os) refl)
     (then-made (λ s. blame 9 (closed limit s)) (binaryOf (length os) os) end (ap (blame 9) (closed-house limit q t k e))))
 
 -- house form after its boundary line, and what follows it
@@ -123,7 +131,8 @@ house-then d os q =
     (append-assoc head (13 ∷ 10 ∷ (marker ++ (os ++ (13 ∷ 10 ∷ closing)))) q
     ∙ ap (λ (z : List ℕ). head ++ (13 ∷ 10 ∷ (marker ++ z))) (append-assoc os (13 ∷ 10 ∷ closing) q))
 
-step-house : (limit : ℕ) (st : State) (os q t : List ℕ) (k : ℕ) (i : Section) → 48 ≤ limit → Fits (i .description) os → isOpened (st .field) ≡ true → st .count < 512
+step-house : (limit : ℕ) (st : State) (os q t : List ℕ) (k : ℕ) (i : Section) → 48 ≤ limit → Fits (i .description) os
+    → isOpened (st .field) ≡ true → st .count < 512
     → i .block ≡ st .block → afterSpan limit q ≡ ok t k
     → step limit st (house (i .description) os ++ q) ≡ ok (some (housedSection os i), afterSection st) (length (house (i .description) os) + k)
 unfolding step
@@ -139,7 +148,17 @@ step-house limit st os q t k i l f is-open room name e =
     ap (step limit st) (house-then d os q)
     ∙ bind-at (lineOf limit st) (afterStepLine limit st) (ended opening ++ s) s 31 top refl
     (rw is-open (then-made (section limit (st .block) 31) (λ j. (some j, afterSection st)) s (section-house limit (st .block) d os q t k l f e)))
-    ∙ (λ j. ok (some (record { description = housed (length os) d; octets = os; first = lead j; width = wide j; block = sym name j }), afterSection st) (total j))
+    ∙ (λ j. ok (
+      some (record {
+        description = housed (length os) d;
+        octets = os;
+        first = lead j;
+        width = wide j;
+        block
+            = sym name j;
+      }),
+      afterSection st,
+    ) (total j))
 
 -- BINARY or BASE64 before, the span is exchanged for house form
 pub house-lawful : (limit : ℕ) (os : List ℕ) (i : Section) → 48 ≤ limit → Fits (i .description) os
@@ -152,7 +171,8 @@ house-lawful limit os i l f = record {
 }
   where
     reads : (st t : State) (b r : List ℕ) → Took limit st t (b ++ r) i (length b)
-        → step limit st ((house (i .description) os ++ drop (i .width) b) ++ r) ≡ ok (some (housedSection os i), t) (length (house (i .description) os ++ drop (i .width) b))
+        → step limit st ((house (i .description) os ++ drop (i .width) b) ++ r) ≡ ok (some (housedSection os i), t)
+        (length (house (i .description) os ++ drop (i .width) b))
     reads st t b r u =
         let new = house (i .description) os in
         let end = drop (i .width) b in

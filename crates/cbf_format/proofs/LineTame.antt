@@ -9,10 +9,12 @@ use lib.Dec.{leb, ltb, eqb}
 use borrow.Author.Tests.{le-leb, leb-true, ltb-true, eq-eqb, eqb-true}
 use lib.ListN.{length, take, length-append}
 use lib.Seq.{take-at}
-use Rattle.cbf_walk.specs.Parsers.{Res, bad, cut, ok, hd, Tame, Moves}
+use Rattle.cbf_walk.specs.Parsers.{Res, bad, cut, ok, hd}
+use Rattle.cbf_walk.proofs.Tame.{Tame, Moves}
 use Rattle.cbf_walk.proofs.ParserLaws.{hd-app, bad≢ok, cut≢ok, ok-val, ok-num, unscreen, screen-tame, counted-tame}
 use Rattle.cbf_format.specs.Text.{textual, same}
-use Rattle.cbf_format.specs.Lines.{endLength, addByte, lineOr, line, refusedByte, textLine, onlyEnd, lineEnd, octets, word, semicolon, semicolonLine}
+use Rattle.cbf_format.specs.Lines.{endLength, addByte, lineOr, line, refusedByte, textLine, onlyEnd, lineEnd}
+use Rattle.cbf_format.specs.Lines.{exactly, literal, semicolon, semicolonLine}
 use Rattle.cbf_format.specs.Headers.{orMalformed, malformed, headerLine}
 
 -- ---- a line
@@ -65,7 +67,8 @@ line-tame = record { within = within; near = near }
     near [] (x ∷ r) r′ t e h = let z = line-pos x r t 0 h in absurd (let z′ : ⊥ = omega arith in z′)
     near (x ∷ b) r r′ t e h = go (eqb x 10) (eqb x 13) h (λ t h. near b r r′ t e h)
       where
-        go : (u v : Bool) → lineOr u v x (b ++ r) (line (b ++ r)) ≡ ok t (suc (length b)) → ((t : List ℕ) → line (b ++ r) ≡ ok t (length b) → line (b ++ r′) ≡ ok t (length b))
+        go : (u v : Bool) → lineOr u v x (b ++ r) (line (b ++ r)) ≡ ok t (suc (length b))
+            → ((t : List ℕ) → line (b ++ r) ≡ ok t (length b) → line (b ++ r′) ≡ ok t (length b))
             → lineOr u v x (b ++ r′) (line (b ++ r′)) ≡ ok t (suc (length b))
         go true v h ih = h
         go false true h ih = ap (λ (o : Option ℕ). ok [] (endLength o)) (sym (hd-app b r r′ e)) ∙ h
@@ -124,19 +127,19 @@ headerLine-tame limit first = screen-tame (λ t. orMalformed (refusedByte limit 
 
 -- ---- runs of bytes
 
-pub unoctets : (k : ℕ) (s os : List ℕ) (n : ℕ) → octets k s ≡ ok os n → (k ≤ length s) × (os ≡ take k s) × (n ≡ k)
-unfolding octets
+pub unoctets : (k : ℕ) (s os : List ℕ) (n : ℕ) → exactly k s ≡ ok os n → (k ≤ length s) × (os ≡ take k s) × (n ≡ k)
+unfolding exactly
 unoctets k s os n e = go (leb k (length s)) refl e
   where
     go : (b : Bool) → leb k (length s) ≡ b → cond b (ok (take k s) k) (bad 9 (length s)) ≡ ok os n → (k ≤ length s) × (os ≡ take k s) × (n ≡ k)
     go true q h = (leb-true _ _ q, sym (ok-val h), sym (ok-num h))
     go false q h = absurd (bad≢ok h)
 
-pub octets-ok : (b r : List ℕ) → octets (length b) (b ++ r) ≡ ok b (length b)
-unfolding octets
+pub octets-ok : (b r : List ℕ) → exactly (length b) (b ++ r) ≡ ok b (length b)
+unfolding exactly
 octets-ok b r = rw (le-leb (length b) (length (b ++ r)) (omega (arith, length-append b r)), take-at b r (length b) refl)
 
-pub octets-tame : (k : ℕ) → Tame (octets k)
+pub octets-tame : (k : ℕ) → Tame (exactly k)
 octets-tame k = record {
   within = λ s os n e. let u = unoctets k s os n e in omega (arith, u .0, u .2);
   near = λ b r r′ os e h.
@@ -145,8 +148,8 @@ octets-tame k = record {
       rw (← (u .2), q) (octets-ok b r′);
 }
 
-pub word-tame : (w : List ℕ) → Tame (word w)
-unfolding word
+pub word-tame : (w : List ℕ) → Tame (literal w)
+unfolding literal
 word-tame w = screen-tame (λ t. cond (same t w) none (some (9, 0))) (octets-tame (length w))
 
 -- ---- the same bytes
@@ -169,6 +172,6 @@ pub same-refl : (s : List ℕ) → same s s ≡ true
 same-refl [] = refl
 same-refl (x ∷ s) = rw (eq-eqb x x refl) (same-refl s)
 
-pub word-ok : (w r : List ℕ) → word w (w ++ r) ≡ ok w (length w)
-unfolding word
+pub word-ok : (w r : List ℕ) → literal w (w ++ r) ≡ ok w (length w)
+unfolding literal
 word-ok w r = rw (octets-ok w r, same-refl w)

@@ -1,4 +1,5 @@
--- How long a listing is: of each number, of each block name, of the list of sections, and of the whole. Assumes nothing.
+-- How long a listing is: of each number, of each block name, of the list of sections, and of the whole. Assumes
+-- nothing.
 use mathlib.Core.Path.{_≡_, refl, ap}
 use mathlib.Core.Option.{Option, none, some}
 use mathlib.Core.Bool.{Bool, true, false, cond}
@@ -9,16 +10,19 @@ use native.Mathlib.Omega.{arith}
 use lib.Dec.{ltb}
 use lib.ListN.{length, take, drop, length-append, length-drop}
 use Rattle.cbf_walk.specs.Parsers.{ok}
-use Rattle.cbf_walk.specs.Reading.{good, flat, Good}
-use Rattle.cbf_walk.specs.Edits.{sections as count}
+use Rattle.cbf_walk.specs.Reading.{good, flat}
+use Rattle.cbf_walk.proofs.Good.{Good}
+use Rattle.cbf_walk.proofs.Edits.{sectionCount as count}
 use Rattle.cbf_pixels.specs.declared.ElementType.{ElementType}
 use Rattle.cbf_pixels.specs.declared.ElementType.the-variants.{U8, S8, U16, S16, U32, S32}
 use Rattle.cbf_pixels.specs.declared.Compression.{Compression}
 use Rattle.cbf_pixels.specs.declared.Compression.the-variants.{Uncompressed, ByteOffset}
 use Rattle.cbf_format.specs.Text.{bytes, blank, lowers, same}
 use Rattle.cbf_format.specs.Sections.{Section}
-use Rattle.cbf_format.specs.Files.{Field, first-line, outside, opened, inside, State, start, due, upToBlank, nextBlock, stepLine, step, Tree, read}
-use Rattle.cbf_format.specs.Listing.{Placed, addPlaced, sections, position, digitsOf, compressionName, typeName, named, sectionText, sectionLine, sectionLines, listing}
+use Rattle.cbf_format.specs.Files.{Field, first-line, outside, opened, inside, State, start, due, upToBlank}
+use Rattle.cbf_format.specs.Files.{nextBlock, stepLine, step, Tree, read}
+use Rattle.cbf_format.specs.Listing.{Placed, addPlaced, sections, position, digitsOf, compressionName, typeName}
+use Rattle.cbf_format.specs.Listing.{named, sectionText, sectionLine, sectionLines, listing}
 use Rattle.cbf_format.proofs.LineTame.{textLine-short}
 use Rattle.cbf_format.proofs.FileLaws.{passed, took, Took, accepted, sections-most}
 
@@ -44,7 +48,8 @@ upToBlank-short (x ∷ t) = go (blank x) (upToBlank-short t)
     go true h = omega arith
     go false h = omega arith
 
-nextBlock-short : (limit : ℕ) (f : Field) (s t block : List ℕ) (n : ℕ) → stepLine limit f s ≡ ok t n → length block ≤ limit → length (nextBlock f t block) ≤ limit
+nextBlock-short : (limit : ℕ) (f : Field) (s t block : List ℕ) (n : ℕ) → stepLine limit f s ≡ ok t n → length block ≤
+    limit → length (nextBlock f t block) ≤ limit
 nextBlock-short limit first-line s t block n e h = h
 nextBlock-short limit outside s t block n e h = go (same (lowers (take 5 t)) (bytes "data_"))
   where
@@ -122,7 +127,16 @@ pub sectionText-short : (number at size elements : ℕ) (c : Compression) (t : E
 unfolding sectionText
 sectionText-short number at size elements c t name =
     simp length-append
-    (omega (arith, digits-short 20 number, digits-short 20 at, digits-short 20 size, digits-short 20 elements, compressionName-short c, typeName-short t, named-short name))
+    (omega (
+      arith,
+      digits-short 20 number,
+      digits-short 20 at,
+      digits-short 20 size,
+      digits-short 20 elements,
+      compressionName-short c,
+      typeName-short t,
+      named-short name,
+    ))
 
 sectionLines-short : (limit n : ℕ) (ps : List Placed) → NamesWithin limit ps → length (sectionLines n ps) ≤ length ps * (limit + 101)
 unfolding sectionLines NamesWithin

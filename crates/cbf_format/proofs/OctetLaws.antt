@@ -1,4 +1,5 @@
--- A section of an accepted file and the bytes of the file that its octets come from: where they stand, how many they are, and what the headers say of them. Assumes nothing.
+-- A section of an accepted file and the bytes of the file that its octets come from: where they stand, how many they
+-- are, and what the headers say of them. Assumes nothing.
 use mathlib.Core.Path.{_≡_, refl, sym, ap, _∙_, subst}
 use mathlib.Core.Option.{Option, none, some, Option·none-ne-some, Option·some-ne-none}
 use mathlib.Core.Bool.{Bool, true, false}
@@ -8,19 +9,22 @@ use native.Mathlib.Omega.{arith}
 use lib.Dec.{eqb}
 use borrow.Author.Tests.{eqb-true}
 use lib.ListN.{length, take, drop, length-append, length-drop}
-use lib.Seq.{slice, take-add, drop-at, drop-drop, length-take-le}
+use lib.Seq.{slice, drop-at, drop-drop, length-take-le}
 use Rattle.cbf_walk.specs.Parsers.{ok, ret, blame, bind}
-use Rattle.cbf_walk.specs.Reading.{good, flat, Good}
+use Rattle.cbf_walk.specs.Reading.{good, flat}
+use Rattle.cbf_walk.proofs.Good.{Good}
 use Rattle.cbf_walk.proofs.ParserLaws.{Unbound, ok-val, unbind, unscreen, unblame}
 use Rattle.cbf_pixels.specs.declared.Compression.the-variants.{Uncompressed}
 use Rattle.cbf_pixels.specs.Uncompressed.{octetsPer}
 use Rattle.cbf_format.specs.declared.Encoding.{Encoding}
 use Rattle.cbf_format.specs.declared.Encoding.the-variants.{Binary, Base64}
-use Rattle.cbf_format.specs.Lines.{octets, word, semicolonLine}
+use Rattle.cbf_format.specs.Lines.{exactly, literal, semicolonLine}
 use Rattle.cbf_format.specs.Headers.{HeaderLines, headerLines}
 use Rattle.cbf_format.specs.Descriptions.{describes, verdict, headers}
 use Rattle.cbf_format.specs.Base64.{Letters, letters, decode}
-use Rattle.cbf_format.specs.Sections.{closing, marker, fileLimit, Data, closed, closedAfter, binaryData, goodText, decoded, base64Data, dataFor, Section}
+use Rattle.cbf_format.specs.Sections.{closing, marker, Data, closed, closedAfter, binaryData, goodText, decoded}
+use Rattle.cbf_format.specs.Sections.{base64Data, dataFor, Section}
+use Rattle.cbf_answers.specs.Limits.{fileLimit, pixelLimit}
 use Rattle.cbf_format.specs.Files.{State, start, due, step, Tree, read}
 use Rattle.cbf_format.specs.Listing.{Placed, addPlaced, sections, numbered, position}
 use Rattle.cbf_format.proofs.Slices.{slice-take}
@@ -85,7 +89,8 @@ module _ (limit : ℕ) (file : List ℕ) where
       rest = sym (drop-drop (length (it .bytes)) at file) ∙ ap (drop (length (it .bytes))) e ∙ drop-at (it .bytes) (flat its) (length (it .bytes)) refl
 
       go : (o : Option Section) (t : State) → step limit st (it .bytes ++ flat its) ≡ ok (o, t) (length (it .bytes)) → (m : ℕ)
-          → numbered m (addPlaced at o (sections next its)) ≡ some p → ((m : ℕ) → numbered m (sections next its) ≡ some p → DataAt limit file p) → DataAt limit file p
+          → numbered m (addPlaced at o (sections next its)) ≡ some p → ((m : ℕ) → numbered m (sections next its)
+          ≡ some p → DataAt limit file p) → DataAt limit file p
       go none t d m r ih = ih m r
       go (some i) t d zero r ih = absurd (Option·none-ne-some p r)
       go (some i) t d (suc zero) r ih =
@@ -107,18 +112,19 @@ record BinaryAt (size : ℕ) (s : List ℕ) (d : Data) : Type 0 where
 
 binary-at : (limit size : ℕ) (s : List ℕ) (d : Data) (n : ℕ) → binaryData limit size s ≡ ok d n → BinaryAt size s d
 unfolding binaryData
-binary-at limit size s d n e = go (unbind (λ s. blame 8 (word marker s)) (λ m. bind (octets size) (closedAfter limit size)) s d n e)
+binary-at limit size s d n e = go (unbind (λ s. blame 8 (literal marker s)) (λ m. bind (exactly size) (closedAfter limit size)) s d n e)
   where
     U₁ : Type 0
-    U₁ = Unbound (λ s. blame 8 (word marker s)) (λ m. bind (octets size) (closedAfter limit size)) s d n
+    U₁ = Unbound (λ s. blame 8 (literal marker s)) (λ m. bind (exactly size) (closedAfter limit size)) s d n
 
     U₂ : U₁ → Type 0
-    U₂ u = Unbound (octets size) (closedAfter limit size) (drop (u .first) s) d (u .second)
+    U₂ u = Unbound (exactly size) (closedAfter limit size) (drop (u .first) s) d (u .second)
 
-    go₃ : (u : U₁) (v : U₂ u) → Unbound (λ s. blame 9 (closed limit s)) (λ c. ret (binaryOf size (v .val) c)) (drop (v .first) (drop (u .first) s)) d (v .second)
+    go₃ : (u : U₁) (v : U₂ u) → Unbound (λ s. blame 9 (closed limit s)) (λ c. ret (binaryOf size (v .val) c))
+        (drop (v .first) (drop (u .first) s)) d (v .second)
         → BinaryAt size s d
     go₃ u v w =
-        let a : u .first ≡ 4 = word-count marker s (u .val) (u .first) (unblame 8 (word marker s) (u .val) (u .first) (u .did)) in
+        let a : u .first ≡ 4 = word-count marker s (u .val) (u .first) (unblame 8 (literal marker s) (u .val) (u .first) (u .did)) in
         let b = unoctets size (drop (u .first) s) (v .val) (v .first) (v .did) in
         let q : binaryOf size (v .val) (w .val) ≡ d = ok-val (w .then-did) in
         record {
@@ -128,10 +134,11 @@ binary-at limit size s d n e = go (unbind (λ s. blame 8 (word marker s)) (λ m.
         }
 
     go₂ : (u : U₁) → U₂ u → BinaryAt size s d
-    go₂ u v = go₃ u v (unbind (λ s. blame 9 (closed limit s)) (λ c. ret (binaryOf size (v .val) c)) (drop (v .first) (drop (u .first) s)) d (v .second) (v .then-did))
+    go₂ u v = go₃ u v (unbind (λ s. blame 9 (closed limit s)) (λ c. ret (binaryOf size (v .val) c))
+        (drop (v .first) (drop (u .first) s)) d (v .second) (v .then-did))
 
     go : U₁ → BinaryAt size s d
-    go u = go₂ u (unbind (octets size) (closedAfter limit size) (drop (u .first) s) d (u .second) (u .then-did))
+    go u = go₂ u (unbind (exactly size) (closedAfter limit size) (drop (u .first) s) d (u .second) (u .then-did))
 
 -- BASE64: as many octets as declared
 good-text : (size : ℕ) (l : Letters) → goodText size l ≡ none → length (decoded (decode (l .symbols))) ≡ size
@@ -191,7 +198,7 @@ module _ {limit : ℕ} {file : List ℕ} {p : Placed} (d : DataAt limit file p) 
       ∙ data-count limit (p .section .description .encoding) (p .section .description .size) (drop (d .at) file) (d .found) (d .took) (d .read-data)
 
   -- "X-Binary-Number-of-Elements .. 0 to 67,108,864"
-  pub few-elements : p .section .description .elements ≤ 67_108_864
+  pub few-elements : p .section .description .elements ≤ pixelLimit
   few-elements = known (d .described .0) (p .section .description) (d .described .1) .few
 
   -- "uncompressed size = elements × octets per element"

@@ -1,4 +1,5 @@
--- Each refusal of reading has a number from 1 to 11, and a place inside the file; the boundary line of a section with a long name is inside it too. Assumes nothing.
+-- Each refusal of reading has a number from 1 to 11, and a place inside the file; the boundary line of a section with
+-- a long name is inside it too. Assumes nothing.
 use mathlib.Core.Path.{_≡_, refl, ap, subst}
 use mathlib.Core.Option.{Option, none, some}
 use mathlib.Core.Bool.{Bool, true, false, _&&_, cond}
@@ -10,27 +11,38 @@ use borrow.Author.Tests.{leb-true}
 use lib.ListN.{length, length-append, take, drop}
 use Rattle.cbf_walk.specs.Parsers.{Res, bad, cut, ok, Parser, ret, plus, counted, screen, blame, onward, bind}
 use Rattle.cbf_walk.specs.Reading.{Item, Reading, refused, good, flat}
-use Rattle.cbf_walk.proofs.ParserLaws.{cut≢ok, ok-val, uncount, unscreen, unonward, counted-tame, screen-tame, blame-tame, onward-tame}
-use Rattle.cbf_walk.proofs.PlaceLaws.{Gives, bind-gives, Within, TestWithin, passes, refuses, ReadingWithin, RefusesWithin, cond-within, ret-within, cut-within, counted-within, screen-within, blame-within, onward-within, bind-within, read-within}
+use Rattle.cbf_walk.proofs.ParserLaws.{cut≢ok, ok-val, uncount, unscreen, unonward, counted-tame, screen-tame}
+use Rattle.cbf_walk.proofs.ParserLaws.{blame-tame, onward-tame}
+use Rattle.cbf_walk.proofs.PlaceLaws.{Gives, bind-gives, Within, TestWithin, passes, refuses, ReadingWithin}
+use Rattle.cbf_walk.proofs.PlaceLaws.{RefusesWithin, cond-within, ret-within, cut-within, counted-within}
+use Rattle.cbf_walk.proofs.PlaceLaws.{screen-within, blame-within, onward-within, bind-within, read-within}
 use Rattle.cbf_format.specs.Text.{textual, same, skip}
-use Rattle.cbf_format.specs.Lines.{lineOr, line, refusedByte, textLine, octets, word}
-use Rattle.cbf_format.specs.Headers.{orMalformed, malformed, headerLine, HeaderLines, addLine, moreLines, headerLines, Header, Grouped, continues, splitColon, headed, group}
+use Rattle.cbf_format.specs.Lines.{lineOr, line, refusedByte, textLine, exactly, literal}
+use Rattle.cbf_format.specs.Headers.{orMalformed, malformed, headerLine, HeaderLines, addLine, moreLines}
+use Rattle.cbf_format.specs.Headers.{headerLines, Header, Grouped, continues, splitColon, headed, group}
 use Rattle.cbf_format.specs.declared.KnownHeader.{KnownHeader}
 use Rattle.cbf_format.specs.declared.KnownHeader.the-variants.{TransferEncoding, Size, Elements}
-use Rattle.cbf_format.specs.Values.{knownHeaders, named, valueOf}
+use Rattle.cbf_format.specs.Values.{knownHeaders, headerNamed, valueOf}
 use Rattle.cbf_format.specs.declared.Encoding.{Encoding}
 use Rattle.cbf_format.specs.declared.Encoding.the-variants.{Binary, Base64}
 use Rattle.cbf_format.specs.declared.Description.{Description}
-use Rattle.cbf_format.specs.Descriptions.{Judged, refused-at, found, look, put, judgeHeader, onward as judgedOn, judge, description}
-use Rattle.cbf_format.specs.Descriptions.{agrees, Verdict, refuses as refusesAt, describes, described, verdictOf, verdict}
+use Rattle.cbf_format.specs.Descriptions.{Judged, refused-at, found, look, put, judgeHeader}
+use Rattle.cbf_format.specs.Descriptions.{judgeOn as judgedOn, judge, description, agrees, Verdict}
+use Rattle.cbf_format.specs.Descriptions.{refuses as refusesAt, describes, described, verdictOf, verdict}
 use Rattle.cbf_format.specs.Descriptions.{concludedBy, concluded, headers}
-use Rattle.cbf_format.specs.Base64.{symbol, isOther, refusedSymbol, Letters, addSymbols, refusedText, moreText, letters, decode, sized}
-use Rattle.cbf_format.specs.Sections.{closing, marker, fileLimit, closed, closedAfter, binaryData, goodText, blameAt, textClosed, base64Data, dataFor, Section, sectionOf, section}
-use Rattle.cbf_format.specs.Files.{identified, refusedFirst, Field, first-line, outside, opened, inside, State, start, due, afterLine, afterSection, isBoundary, oneTooMany, stepLine, sectionOr, afterStepLine, step, Tree, readSome, read}
+use Rattle.cbf_format.specs.Base64.{symbol, isOther, refusedSymbol, Letters, addSymbols, refusedText, moreText}
+use Rattle.cbf_format.specs.Base64.{letters, decode, sized}
+use Rattle.cbf_format.specs.Sections.{closing, marker, closed, closedAfter, binaryData, goodText, blameAt}
+use Rattle.cbf_format.specs.Sections.{textClosed, base64Data, dataFor, Section, sectionOf, section}
+use Rattle.cbf_answers.specs.Limits.{fileLimit}
+use Rattle.cbf_format.specs.Files.{identified, refusedFirst, Field, first-line, outside, opened, inside, State}
+use Rattle.cbf_format.specs.Files.{start, due, afterLine, afterSection, isBoundary, oneTooMany, stepLine}
+use Rattle.cbf_format.specs.Files.{sectionOr, afterStepLine, step, Tree, readSome, read}
 use Rattle.cbf_format.specs.Listing.{Placed, addPlaced, sections}
 use Rattle.cbf_format.specs.Catalogue.{labelWidth, longName}
 use Rattle.cbf_format.proofs.LineTame.{and-true, line-tame, headerLine-tame, octets-tame, word-tame}
-use Rattle.cbf_format.proofs.SectionTame.{headerLines-tame, headers-tame, closed-tame, binaryOf, letters-tame, text, afterText, dataFor-tame, afterHeaders, section-tame}
+use Rattle.cbf_format.proofs.SectionTame.{headerLines-tame, headers-tame, closed-tame, binaryOf, letters-tame}
+use Rattle.cbf_format.proofs.SectionTame.{text, afterText, dataFor-tame, afterHeaders, section-tame}
 use Rattle.cbf_format.proofs.SectionLaws.{line-rest, letters-end}
 use Rattle.cbf_format.proofs.FileLaws.{lineOf, stepLine-tame, step-tame, accepted}
 
@@ -67,7 +79,8 @@ line-long s t n e = omega (arith, line-rest s t n e .1)
 refusedByte-test : (limit i m : ℕ) (t : List ℕ) → i + length t ≤ m → Test m (refusedByte limit i t)
 refusedByte-test limit i m [] l = passes
 refusedByte-test limit i m (x ∷ t) l =
-    cond-within (textual x) (cond-within (ltb i limit) (refusedByte-test limit (suc i) m t (omega arith)) (refuses refl (omega arith))) (refuses refl (omega arith))
+    cond-within (textual x) (cond-within (ltb i limit) (refusedByte-test limit (suc i) m t (omega arith))
+    (refuses refl (omega arith))) (refuses refl (omega arith))
 
 -- a line whose text is tested
 pub tested-places : (c : List ℕ → Option (ℕ × ℕ)) → ((t : List ℕ) (n : ℕ) → length t ≤ n → Test n (c t)) → Places (λ s. screen c (line s))
@@ -89,8 +102,8 @@ headerLine-places limit first =
 
 -- ---- runs of bytes
 
-pub octets-places : (n : ℕ) → Places (octets n)
-unfolding octets
+pub octets-places : (n : ℕ) → Places (exactly n)
+unfolding exactly
 octets-places n = record { places = λ s. go s (leb n (length s)) }
   where
     go : (s : List ℕ) (b : Bool) → Within ReadingNumber (length s) (cond b (ok (take n s) n) (bad 9 (length s)))
@@ -164,7 +177,8 @@ JudgedWithin m (found fs) = Unit {0}
 judge-within : (m : ℕ) (hs : List Header) (fs : List (KnownHeader × ℕ)) → HeadersWithin m hs → JudgedWithin m (judge hs fs)
 unfolding judge
 judge-within m [] fs h = tt
-judge-within m (x ∷ hs) fs h = on (judgeHeader x (named knownHeaders (x .name)) fs) (header (named knownHeaders (x .name))) (λ r. judge-within m hs r (h .1))
+judge-within m (x ∷ hs) fs h = on (judgeHeader x (headerNamed knownHeaders (x .name)) fs)
+    (header (headerNamed knownHeaders (x .name))) (λ r. judge-within m hs r (h .1))
   where
     value : (k : KnownHeader) (old v : Option ℕ) → JudgedWithin m (put (x .at) k old v fs)
     value k (some n) v = h .0
@@ -209,19 +223,22 @@ headers-places limit most = record { places = λ s. go s (headerLines limit most
     by m n (refusesAt k p) h = h
     by m n (describes d) h = tt
 
-    go : (s : List ℕ) (x : Res HeaderLines) → headerLines limit most true 0 s ≡ x → Within ReadingNumber (length s) x → Within ReadingNumber (length s) (concluded x)
+    go : (s : List ℕ) (x : Res HeaderLines) → headerLines limit most true 0 s ≡ x → Within ReadingNumber (length s) x
+        → Within ReadingNumber (length s) (concluded x)
     go s (bad k p) e h = h
     go s cut e h = tt
     go s (ok hs n) e h =
-        by (length s) n (verdict hs) (verdict-within (length s) hs (headerLines-lines limit most true 0 s hs n e (length s) (omega (arith, headerLines-tame limit most true 0 .within s hs n e))))
+        by (length s) n (verdict hs) (verdict-within (length s) hs (headerLines-lines limit most true 0 s hs n e
+        (length s) (omega (arith, headerLines-tame limit most true 0 .within s hs n e))))
 
 -- ---- BINARY
 
 pub binaryData-places : (limit size : ℕ) → Places (binaryData limit size)
 unfolding binaryData
 binaryData-places limit size =
-    bind-within (λ s. blame 8 (word marker s)) (λ m. bind (octets size) (closedAfter limit size)) (blame-tame 8 (word-tame marker)) (blame-within 8 refl (word marker))
-    (λ m. bind-within (octets size) (closedAfter limit size) (octets-tame size) (octets-places size)
+    bind-within (λ s. blame 8 (literal marker s)) (λ m. bind (exactly size) (closedAfter limit size))
+    (blame-tame 8 (word-tame marker)) (blame-within 8 refl (literal marker))
+    (λ m. bind-within (exactly size) (closedAfter limit size) (octets-tame size) (octets-places size)
     (λ os. bind-within (λ s. blame 9 (closed limit s)) (λ n. ret (binaryOf size os n)) (blame-tame 9 (closed-tame limit)) (blame-within 9 refl (closed limit))
     (λ n. ret-within (binaryOf size os n))))
 
@@ -231,7 +248,8 @@ refusedSymbol-test : (limit i m : ℕ) (t : List ℕ) → i + length t ≤ m →
 refusedSymbol-test limit i m [] l = passes
 refusedSymbol-test limit i m (x ∷ t) l =
     cond-within (textual x)
-    (cond-within (ltb i limit) (cond-within (isOther (symbol x)) (refuses refl (omega arith)) (refusedSymbol-test limit (suc i) m t (omega arith))) (refuses refl (omega arith)))
+    (cond-within (ltb i limit) (cond-within (isOther (symbol x)) (refuses refl (omega arith))
+    (refusedSymbol-test limit (suc i) m t (omega arith))) (refuses refl (omega arith)))
     (refuses refl (omega arith))
 
 refusedText-test : (limit : ℕ) (boundary t : List ℕ) (n : ℕ) → length t ≤ n → Test n (refusedText limit boundary t)
@@ -241,7 +259,8 @@ pub letters-places : (limit : ℕ) (boundary : List ℕ) (most at : ℕ) → Pla
 unfolding letters
 letters-places limit boundary zero at = cut-within
 letters-places limit boundary (suc f) at =
-    bind-within (onward (λ r. counted (screen (refusedText limit boundary) (line r)))) (λ tn. moreText (same (tn .0) boundary) (λ m. letters limit boundary f m) at tn)
+    bind-within (onward (λ r. counted (screen (refusedText limit boundary) (line r))))
+    (λ tn. moreText (same (tn .0) boundary) (λ m. letters limit boundary f m) at tn)
     (onward-tame (counted-tame (screen-tame (refusedText limit boundary) line-tame)))
     (onward-within (counted-within (tested-places (refusedText limit boundary) (refusedText-test limit boundary))))
     (λ tn. more (λ m. letters-places limit boundary f m) (same (tn .0) boundary) tn)

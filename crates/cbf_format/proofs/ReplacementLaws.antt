@@ -9,14 +9,18 @@ use native.Mathlib.Omega.{arith}
 use lib.Dec.{ltb, leb·suc-suc}
 use lib.ListN.{length, length-append}
 use lib.IntN.{ℤ}
-use Rattle.cbf_walk.specs.Reading.{good, flat, Good}
-use Rattle.cbf_walk.specs.Edits.{nth, start, edit, sections as items, exchange, exchangeBoth}
-use Rattle.cbf_walk.proofs.EditLaws.{Plain, Section as Sectional, by-items, nth-in, nth-same, nth-other, start-before, start-past, apart, edit-good, edit-comm}
+use Rattle.cbf_walk.specs.Reading.{good, flat}
+use Rattle.cbf_walk.proofs.Good.{Good}
+use Rattle.cbf_walk.proofs.Edits.{nth, startOf, edit, sectionCount as items}
+use Rattle.cbf_walk.specs.Exchange.{exchange, exchangeBoth}
+use Rattle.cbf_walk.proofs.EditLaws.{Plain, Section as Sectional, by-items, nth-in, nth-same, nth-other, start-before}
+use Rattle.cbf_walk.proofs.EditLaws.{start-past, apart, edit-good, edit-comm}
 use Rattle.cbf_walk.proofs.OrderLaws.{SameOutsideBoth, edit-exchange, edits-exchange, edits-outside}
 use Rattle.cbf_pixels.specs.Pixels.{packByteOffset}
 use Rattle.cbf_pixels.proofs.Bounds.{packed-bounds}
 use Rattle.cbf_format.specs.declared.Description.{Description}
-use Rattle.cbf_format.specs.Sections.{fileLimit, Section}
+use Rattle.cbf_answers.specs.Limits.{fileLimit}
+use Rattle.cbf_format.specs.Sections.{Section}
 use Rattle.cbf_format.specs.Files.{due, step, Tree, read, start as beginning}
 use Rattle.cbf_format.specs.Listing.{Placed, sections, numbered}
 use Rattle.cbf_format.specs.House.{house, replacedFile, replacedBoth}
@@ -34,34 +38,36 @@ placed at (some i) = some (record { boundary = at; section = i })
 
 unplaced : (at : ℕ) (o : Option Section) (p : Placed) → placed at o ≡ some p → (o ≡ some (p .section)) × (at ≡ p .boundary)
 unplaced at none p e = absurd (Option·none-ne-some p e)
-unplaced at (some i) p e = let q : record { boundary = at; section = i } ≡ p = cc in (ap (λ (z : Placed). some (z .section)) q, ap (λ (z : Placed). z .boundary) q)
+unplaced at (some i) p e = let q : record { boundary = at; section = i }
+    ≡ p = cc in (ap (λ (z : Placed). some (z .section)) q, ap (λ (z : Placed). z .boundary) q)
 
-numbered-placed : (its : Tree) (at n : ℕ) → numbered (suc n) (sections at its) ≡ placed (at + start n its) (nth n its)
-unfolding nth start sections numbered
+numbered-placed : (its : Tree) (at n : ℕ) → numbered (suc n) (sections at its) ≡ placed (at + startOf n its) (nth n its)
+unfolding nth startOf sections numbered
 numbered-placed = by-items P (λ at n. refl) plain go
   where
     P : Tree → Type 0
-    P its = (at n : ℕ) → numbered (suc n) (sections at its) ≡ placed (at + start n its) (nth n its)
+    P its = (at n : ℕ) → numbered (suc n) (sections at its) ≡ placed (at + startOf n its) (nth n its)
 
     plain : Plain P
-    plain it its ih at n = ih (at + length (it .bytes)) n ∙ ap (λ (k : ℕ). placed k (nth n its)) (add-assoc at (length (it .bytes)) (start n its))
+    plain it its ih at n = ih (at + length (it .bytes)) n ∙ ap (λ (k : ℕ). placed k (nth n its)) (add-assoc at (length (it .bytes)) (startOf n its))
 
     go : Sectional P
     go it a its ih at zero = ap (λ (k : ℕ). placed k (some a)) (sym (add-zero at))
     go it a its ih at (suc n) = plain it its ih at n
 
-numbered-is : (n : ℕ) (its : Tree) → numbered (suc n) (sections 0 its) ≡ placed (start n its) (nth n its)
-numbered-is n its = numbered-placed its 0 n ∙ ap (λ (k : ℕ). placed k (nth n its)) (zero-add (start n its))
+numbered-is : (n : ℕ) (its : Tree) → numbered (suc n) (sections 0 its) ≡ placed (startOf n its) (nth n its)
+numbered-is n its = numbered-placed its 0 n ∙ ap (λ (k : ℕ). placed k (nth n its)) (zero-add (startOf n its))
 
 -- section n of a tree, from 0, and its place
 abbrev pub IsAt : ℕ → Tree → Placed → Type 0
-IsAt n its p = (nth n its ≡ some (p .section)) × (start n its ≡ p .boundary)
+IsAt n its p = (nth n its ≡ some (p .section)) × (startOf n its ≡ p .boundary)
 
 pub numbered-nth : (n : ℕ) (its : Tree) (p : Placed) → numbered (suc n) (sections 0 its) ≡ some p → IsAt n its p
-numbered-nth n its p e = unplaced (start n its) (nth n its) p (sym (numbered-is n its) ∙ e)
+numbered-nth n its p e = unplaced (startOf n its) (nth n its) p (sym (numbered-is n its) ∙ e)
 
-pub nth-numbered : (n : ℕ) (its : Tree) (i : Section) → nth n its ≡ some i → numbered (suc n) (sections 0 its) ≡ some (record { boundary = start n its; section = i })
-nth-numbered n its i e = numbered-is n its ∙ ap (placed (start n its)) e
+pub nth-numbered : (n : ℕ) (its : Tree) (i : Section) → nth n its ≡ some i → numbered (suc n) (sections 0 its)
+    ≡ some (record { boundary = startOf n its; section = i })
+nth-numbered n its i e = numbered-is n its ∙ ap (placed (startOf n its)) e
 
 -- there is no section 0
 no-zero : {A : Type 0} (its : Tree) (p : Placed) → numbered 0 (sections 0 its) ≡ some p → A
@@ -111,7 +117,8 @@ abbrev replacedTree : ℕ → List ℕ → Tree → Tree
 replacedTree n os its = edit width (span os) (housedSection os) n its
 
 -- a good tree with a section is what its bytes are read as
-tree-read : (limit n : ℕ) (file : List ℕ) (its : Tree) (i : Section) → nth n its ≡ some i → Good (step limit) due beginning its → flat its ≡ file → length file ≤ fileLimit
+tree-read : (limit n : ℕ) (file : List ℕ) (its : Tree) (i : Section) → nth n its ≡ some i → Good (step limit) due
+    beginning its → flat its ≡ file → length file ≤ fileLimit
     → read limit file ≡ good its
 unfolding flat Good nth
 tree-read limit n file [] i e g w l = absurd (Option·none-ne-some i e)
@@ -121,7 +128,8 @@ tree-read limit n file (it ∷ its) i e g w l =
 
 tree-good : (limit n : ℕ) (its : Tree) (i : Section) (os : List ℕ) → 48 ≤ limit → nth n its ≡ some i → Fits (i .description) os
     → Good (step limit) due beginning its → Good (step limit) due beginning (replacedTree n os its)
-tree-good limit n its i os h e f g = edit-good (step limit) due width (step-tame limit) (span os) (housedSection os) its beginning n i e (house-lawful limit os i h f) g .0
+tree-good limit n its i os h e f g = edit-good (step limit) due width (step-tame limit) (span os) (housedSection os)
+    its beginning n i e (house-lawful limit os i h f) g .0
 
 tree-file : (limit n : ℕ) (file : List ℕ) (its : Tree) (p : Placed) (os : List ℕ) → read limit file ≡ good its → IsAt n its p
     → flat (replacedTree n os its) ≡ replacedFile file p os
@@ -160,7 +168,11 @@ replaced-read limit (suc n) file its p os h r e f l =
       reads = replaced-tree limit n file its p os h r at f l;
       new =
           nth-numbered n (replacedTree n os its) (housedSection os (p .section)) (nth-same width (span os) (housedSection os) its n (p .section) (at .0))
-          ∙ (λ k. some (record { boundary = (start-before width (span os) (housedSection os) its n n (omega arith) ∙ at .1) k; section = housedSection os (p .section) }));
+          ∙ (λ k. some (record {
+            boundary = (start-before width (span os) (housedSection os) its n n (omega arith)
+                ∙ at .1) k;
+            section = housedSection os (p .section);
+          }));
       others = others;
     }
   where
@@ -170,7 +182,7 @@ replaced-read limit (suc n) file its p os h r e f l =
     others (suc m) q d e =
         let at = numbered-nth m its q e in
         let tree = replacedTree n os its in (
-          record { boundary = start m tree; section = q .section },
+          record { boundary = startOf m tree; section = q .section },
           nth-numbered m tree (q .section) (nth-other width (span os) (housedSection os) its m n (λ z. d (ap suc z)) ∙ at .0),
           refl,
           λ b. start-before width (span os) (housedSection os) its m n (omega arith) ∙ at .1,
@@ -187,7 +199,8 @@ pub record Next (limit n : ℕ) (file : List ℕ) (i : Section) (os both : List 
   pub same-section : found .section ≡ i
   pub gives : replacedFile file found os ≡ both
 
--- what is read of the file with two sections replaced: both in house form, and outside their spans what was outside before
+-- what is read of the file with two sections replaced: both in house form, and outside their spans what was outside
+-- before
 pub record ReadBoth (limit : ℕ) (file : List ℕ) (i : ℕ) (p : Placed) (os : List ℕ) (j : ℕ) (q : Placed) (os′ : List ℕ) : Type 0 where
   pub tree : Tree
   pub reads : read limit (replacedBoth file i p os j q os′) ≡ good tree
@@ -207,14 +220,15 @@ pub record Orders (limit : ℕ) (file : List ℕ) (i : ℕ) (p : Placed) (os : L
   pub read-both : length (replacedBoth file i p os j q os′) ≤ fileLimit → ReadBoth limit file i p os j q os′
 
 -- section n replaced, then section m
-next : (limit n m : ℕ) (file : List ℕ) (its : Tree) (p q : Placed) (os os′ both : List ℕ) → 48 ≤ limit → read limit file ≡ good its → m ≢ n → IsAt n its p → IsAt m its q
+next : (limit n m : ℕ) (file : List ℕ) (its : Tree) (p q : Placed) (os os′ both : List ℕ) → 48 ≤ limit
+    → read limit file ≡ good its → m ≢ n → IsAt n its p → IsAt m its q
     → Fits (p .section .description) os → flat (replacedTree m os′ (replacedTree n os its)) ≡ both → length (replacedFile file p os) ≤ fileLimit
     → Next limit (suc m) (replacedFile file p os) (q .section) os′ both
 next limit n m file its p q os os′ both h r d e e′ f w l =
     let tree = replacedTree n os its in
     let read-it = replaced-tree limit n file its p os h r e f l in
     let there = nth-other width (span os) (housedSection os) its m n d ∙ e′ .0 in
-    let found : Placed = record { boundary = start m tree; section = q .section } in
+    let found : Placed = record { boundary = startOf m tree; section = q .section } in
     record {
       tree = tree;
       reads = read-it;
@@ -224,8 +238,10 @@ next limit n m file its p q os os′ both h r d e e′ f w l =
       gives = sym (tree-file limit m (replacedFile file p os) tree found os′ read-it (there, refl)) ∙ w;
     }
 
-pub orders : (limit : ℕ) (file : List ℕ) (its : Tree) (i : ℕ) (p : Placed) (os : List ℕ) (j : ℕ) (q : Placed) (os′ : List ℕ) → 48 ≤ limit → read limit file ≡ good its
-    → i ≢ j → numbered i (sections 0 its) ≡ some p → numbered j (sections 0 its) ≡ some q → Fits (p .section .description) os → Fits (q .section .description) os′
+pub orders : (limit : ℕ) (file : List ℕ) (its : Tree) (i : ℕ) (p : Placed) (os : List ℕ) (j : ℕ) (q : Placed)
+    (os′ : List ℕ) → 48 ≤ limit → read limit file ≡ good its
+    → i ≢ j → numbered i (sections 0 its) ≡ some p → numbered j (sections 0 its) ≡ some q
+    → Fits (p .section .description) os → Fits (q .section .description) os′
     → Orders limit file i p os j q os′
 unfolding replacedBoth
 orders limit file its zero p os j q os′ h r d e e′ f f′ = no-zero its p e
@@ -237,10 +253,10 @@ orders limit file its (suc i) p os (suc j) q os′ h r d e e′ f f′ =
       read-both = λ l. record {
         tree = tree;
         reads = tree-read limit i both tree (housedSection os (p .section)) first is-good whole l;
-        first = record { boundary = start i tree; section = housedSection os (p .section) };
+        first = record { boundary = startOf i tree; section = housedSection os (p .section) };
         is-first = nth-numbered i tree (housedSection os (p .section)) first;
         first-section = refl;
-        second = record { boundary = start j tree; section = housedSection os′ (q .section) };
+        second = record { boundary = startOf j tree; section = housedSection os′ (q .section) };
         is-second = nth-numbered j tree (housedSection os′ (q .section)) second;
         second-section = refl;
         outside-same = kept;
@@ -268,18 +284,20 @@ orders limit file its (suc i) p os (suc j) q os′ h r d e e′ f f′ =
     whole : flat tree ≡ both
     whole =
         let a = accepted limit file its r in
-        edits-exchange width (span os) (housedSection os) (span os′) (housedSection os′) its i j (p .section) (q .section) differ (at .0) (at′ .0) (accepted-spans limit file its a)
-        ∙ (λ k. exchangeBoth (sym (leb·suc-suc (suc i) j) k) (a .whole k) (at .1 k) (p .section .width) (house (p .section .description) os) (at′ .1 k) (q .section .width)
+        edits-exchange width (span os) (housedSection os) (span os′) (housedSection os′) its i j (p .section)
+        (q .section) differ (at .0) (at′ .0) (accepted-spans limit file its a)
+        ∙ (λ k. exchangeBoth (sym (leb·suc-suc (suc i) j) k) (a .whole k) (at .1 k) (p .section .width)
+        (house (p .section .description) os) (at′ .1 k) (q .section .width)
         (house (q .section .description) os′))
 
     kept : SameOutsideBoth (ltb (suc i) (suc j)) file (p .boundary) (p .section .width) (q .boundary) (q .section .width)
-        both (start i tree) (length (span os (p .section))) (start j tree) (length (span os′ (q .section)))
+        both (startOf i tree) (length (span os (p .section))) (startOf j tree) (length (span os′ (q .section)))
     kept =
         let a = accepted limit file its r in
         let b = leb·suc-suc (suc i) j in
         coe 0 1
         (k. SameOutsideBoth (sym b k) (a .whole k) (at .1 k) (p .section .width) (at′ .1 k) (q .section .width)
-        (whole k) (start i tree) (length (span os (p .section))) (start j tree) (length (span os′ (q .section))))
+        (whole k) (startOf i tree) (length (span os (p .section))) (startOf j tree) (length (span os′ (q .section))))
         (edits-outside width (span os) (housedSection os) (span os′) (housedSection os′) its i j (p .section) (q .section)
         differ (at .0) (at′ .0) (accepted-spans limit file its a))
 
@@ -295,4 +313,5 @@ orders limit file its (suc i) p os (suc j) q os′ h r d e e′ f f′ =
         ∙ nth-same width (span os′) (housedSection os′) its j (q .section) (at′ .0)
 
     is-good : Good (step limit) due beginning tree
-    is-good = tree-good limit i (replacedTree j os′ its) (p .section) os h there f (tree-good limit j its (q .section) os′ h (at′ .0) f′ (accepted limit file its r .is-good))
+    is-good = tree-good limit i (replacedTree j os′ its) (p .section) os h there f (tree-good limit j its (q .section)
+        os′ h (at′ .0) f′ (accepted limit file its r .is-good))

@@ -11,17 +11,21 @@ use borrow.Author.Tests.{le-leb}
 use lib.ListN.{length, drop}
 use lib.Seq.{drop-drop}
 use Rattle.cbf_walk.specs.Parsers.{Res, ok, Parser, ret, counted, screen, blame, onward, bind}
-use Rattle.cbf_walk.proofs.ParserLaws.{Unbound, bad≢ok, cut≢ok, ok-val, ok-num, unbind, bind-at, uncount, unscreen, unblame, unonward}
+use Rattle.cbf_walk.proofs.ParserLaws.{Unbound, bad≢ok, cut≢ok, ok-val, ok-num, unbind, bind-at, uncount, unscreen}
+use Rattle.cbf_walk.proofs.ParserLaws.{unblame, unonward}
 use Rattle.cbf_format.specs.Text.{same}
-use Rattle.cbf_format.specs.Lines.{lineOr, line, onlyEnd, lineEnd, octets, word, semicolon, semicolonLine}
+use Rattle.cbf_format.specs.Lines.{lineOr, line, onlyEnd, lineEnd, exactly, literal, semicolon, semicolonLine}
 use Rattle.cbf_format.specs.declared.Encoding.{Encoding}
 use Rattle.cbf_format.specs.declared.Encoding.the-variants.{Binary, Base64}
 use Rattle.cbf_format.specs.declared.Description.{Description}
 use Rattle.cbf_format.specs.Descriptions.{headers}
 use Rattle.cbf_format.specs.Base64.{Letters, addSymbols, refusedText, moreText, letters}
-use Rattle.cbf_format.specs.Sections.{closing, marker, fileLimit, Data, lastBoundary, afterSpan, closed, closedAfter, binaryData, goodText, base64Data, dataFor, Section, sectionOf, section}
+use Rattle.cbf_format.specs.Sections.{closing, marker, Data, lastBoundary, afterSpan, closed, closedAfter}
+use Rattle.cbf_format.specs.Sections.{binaryData, goodText, base64Data, dataFor, Section, sectionOf, section}
+use Rattle.cbf_answers.specs.Limits.{fileLimit}
 use Rattle.cbf_format.proofs.LineTame.{unadd, line-pos, unoctets, same-eq}
-use Rattle.cbf_format.proofs.SectionTame.{closedWith, binaryOf, text, base64Of, afterText, unclose, afterHeaders}
+use Rattle.cbf_format.proofs.SectionTame.{closedWith, binaryOf, text, base64Of, afterText, unclose}
+use Rattle.cbf_format.proofs.SectionTame.{afterHeaders}
 
 -- w bytes, which are those up to the span's end, then what follows a span: n bytes in all
 pub record Closes (limit : ℕ) (s : List ℕ) (w n : ℕ) : Type 0 where
@@ -54,7 +58,13 @@ closed-closes limit s c n e = go (unbind (λ s. counted (lastBoundary s)) (close
         let q : u .val .1 ≡ c = ok-val (v .then-did) in
         let z : 0 ≡ v .second = ok-num (v .then-did) in
         let at : u .first ≡ c = omega (arith, k, q) in
-        record { rest = v .first; tail = v .val; sum = omega (arith, at, z, u .sum, v .sum); closes = ap (λ (j : ℕ). afterSpan limit (drop j s)) (sym at) ∙ v .did }
+        record {
+          rest = v .first;
+          tail = v .val;
+          sum = omega (arith, at, z, u .sum, v .sum);
+          closes =
+              ap (λ (j : ℕ). afterSpan limit (drop j s)) (sym at) ∙ v .did;
+        }
 
     go : U₁ → Closes limit s c n
     go u = go₂ u (unbind (afterSpan limit) (λ e. ret (u .val .1)) (drop (u .first) s) c (u .second) (u .then-did))
@@ -64,32 +74,33 @@ pub record DataSays (limit : ℕ) (s : List ℕ) (d : Data) (n : ℕ) : Type 0 w
   pub lead : d .lead ≤ d .width
   pub closes : Closes limit s (d .width) n
 
-pub word-count : (w s t : List ℕ) (n : ℕ) → word w s ≡ ok t n → n ≡ length w
-unfolding word
-word-count w s t n e = unoctets (length w) s t n (unscreen (λ t. cond (same t w) none (some (9, 0))) (octets (length w) s) t n e .0) .2
+pub word-count : (w s t : List ℕ) (n : ℕ) → literal w s ≡ ok t n → n ≡ length w
+unfolding literal
+word-count w s t n e = unoctets (length w) s t n (unscreen (λ t. cond (same t w) none (some (9, 0))) (exactly (length w) s) t n e .0) .2
 
 binary-says : (limit size : ℕ) (s : List ℕ) (d : Data) (n : ℕ) → binaryData limit size s ≡ ok d n → DataSays limit s d n
 unfolding binaryData
-binary-says limit size s d n e = go (unbind (λ s. blame 8 (word marker s)) (λ m. bind (octets size) (closedAfter limit size)) s d n e)
+binary-says limit size s d n e = go (unbind (λ s. blame 8 (literal marker s)) (λ m. bind (exactly size) (closedAfter limit size)) s d n e)
   where
     U₁ : Type 0
-    U₁ = Unbound (λ s. blame 8 (word marker s)) (λ m. bind (octets size) (closedAfter limit size)) s d n
+    U₁ = Unbound (λ s. blame 8 (literal marker s)) (λ m. bind (exactly size) (closedAfter limit size)) s d n
 
     U₂ : U₁ → Type 0
-    U₂ u = Unbound (octets size) (closedAfter limit size) (drop (u .first) s) d (u .second)
+    U₂ u = Unbound (exactly size) (closedAfter limit size) (drop (u .first) s) d (u .second)
 
     U₃ : (u : U₁) → U₂ u → Type 0
     U₃ u v = Unbound (λ s. blame 9 (closed limit s)) (λ c. ret (binaryOf size (v .val) c)) (drop (v .first) (drop (u .first) s)) d (v .second)
 
     go₄ : (u : U₁) (v : U₂ u) (w : U₃ u v) → Closes limit (drop (v .first) (drop (u .first) s)) (w .val) (w .first) → DataSays limit s d n
     go₄ u v w c =
-        let a : u .first ≡ 4 = word-count marker s (u .val) (u .first) (unblame 8 (word marker s) (u .val) (u .first) (u .did)) in
+        let a : u .first ≡ 4 = word-count marker s (u .val) (u .first) (unblame 8 (literal marker s) (u .val) (u .first) (u .did)) in
         let b : v .first ≡ size = unoctets size (drop (u .first) s) (v .val) (v .first) (v .did) .2 in
         let q : binaryOf size (v .val) (w .val) ≡ d = ok-val (w .then-did) in
         let z : 0 ≡ w .second = ok-num (w .then-did) in
         let l : 4 ≡ d .lead = ap (λ (z : Data). z .lead) q in
         let wide : 4 + size + w .val ≡ d .width = ap (λ (z : Data). z .width) q in
-        let nearer : Closes limit (drop (u .first) s) (v .first + w .val) (v .first + w .first) = closes-later limit (v .first) (drop (u .first) s) c refl refl in
+        let nearer : Closes limit (drop (u .first) s) (v .first + w .val) (v .first + w .first) = closes-later limit
+        (v .first) (drop (u .first) s) c refl refl in
         record {
           lead = omega (arith, l, wide);
           closes = closes-later limit (u .first) s nearer (omega (arith, a, b, wide)) (omega (arith, z, u .sum, v .sum, w .sum));
@@ -101,10 +112,11 @@ binary-says limit size s d n e = go (unbind (λ s. blame 8 (word marker s)) (λ 
         (unblame 9 (closed limit (drop (v .first) (drop (u .first) s))) (w .val) (w .first) (w .did)))
 
     go₂ : (u : U₁) → U₂ u → DataSays limit s d n
-    go₂ u v = go₃ u v (unbind (λ s. blame 9 (closed limit s)) (λ c. ret (binaryOf size (v .val) c)) (drop (v .first) (drop (u .first) s)) d (v .second) (v .then-did))
+    go₂ u v = go₃ u v (unbind (λ s. blame 9 (closed limit s)) (λ c. ret (binaryOf size (v .val) c))
+        (drop (v .first) (drop (u .first) s)) d (v .second) (v .then-did))
 
     go : U₁ → DataSays limit s d n
-    go u = go₂ u (unbind (octets size) (closedAfter limit size) (drop (u .first) s) d (u .second) (u .then-did))
+    go u = go₂ u (unbind (exactly size) (closedAfter limit size) (drop (u .first) s) d (u .second) (u .then-did))
 
 -- ---- BASE64
 
@@ -137,7 +149,8 @@ pub record Ends (boundary s : List ℕ) (at : ℕ) (l : Letters) (n : ℕ) : Typ
   pub sum : before + last ≡ n
   pub is-line : line (drop before s) ≡ ok boundary last
 
-pub letters-end : (limit : ℕ) (boundary : List ℕ) (f at : ℕ) (s : List ℕ) (l : Letters) (n : ℕ) → letters limit boundary f at s ≡ ok l n → Ends boundary s at l n
+pub letters-end : (limit : ℕ) (boundary : List ℕ) (f at : ℕ) (s : List ℕ) (l : Letters) (n : ℕ)
+    → letters limit boundary f at s ≡ ok l n → Ends boundary s at l n
 unfolding letters
 letters-end limit boundary zero at s l n e = absurd (cut≢ok e)
 letters-end limit boundary (suc f) at s l n e = go (unbind read more s l n e) (λ at s l n e. letters-end limit boundary f at s l n e)
@@ -178,7 +191,8 @@ letters-end limit boundary (suc f) at s l n e = go (unbind read more s l n e) (�
           is-line = ap line (sym (drop-drop (i .before) (u .first) s)) ∙ i .is-line;
         }
 
-    go₂ : (u : U₁) (b : Bool) → same (u .val .0) boundary ≡ b → moreText b (λ m. letters limit boundary f m) at (u .val) (drop (u .first) s) ≡ ok l (u .second) → IH → Ends boundary s at l n
+    go₂ : (u : U₁) (b : Bool) → same (u .val .0) boundary ≡ b → moreText b (λ m. letters limit boundary f m) at
+        (u .val) (drop (u .first) s) ≡ ok l (u .second) → IH → Ends boundary s at l n
     go₂ u true q h ih =
         let c : at ≡ l .closing = ap (λ (z : Letters). z .closing) (ok-val h) in
         let z : 0 ≡ u .second = ok-num h in
@@ -239,7 +253,8 @@ base64-says limit size s d n e = go (unbind (text limit size) (afterText limit) 
             rest = c .0 + v .first;
             tail = v .val;
             sum = omega (arith, z, end, u .sum, v .sum);
-            closes = afterSpan-ok limit (drop (d .width) s) (drop (u .first) s) (c .0) (v .val) (v .first) (lineEnd-ok (drop (d .width) s) (c .0) some here) on (v .did);
+            closes = afterSpan-ok limit (drop (d .width) s) (drop (u .first) s) (c .0) (v .val) (v .first)
+                (lineEnd-ok (drop (d .width) s) (c .0) some here) on (v .did);
           };
         }
 
@@ -249,7 +264,8 @@ base64-says limit size s d n e = go (unbind (text limit size) (afterText limit) 
     go : U₁ → DataSays limit s d n
     go u =
         go₂ u (unbind (semicolonLine limit) (λ e. ret (base64Of (u .val))) (drop (u .first) s) d (u .second) (u .then-did))
-        (letters-end limit closing fileLimit 0 s (u .val) (u .first) (unscreen (goodText size) (letters limit closing fileLimit 0 s) (u .val) (u .first) (u .did) .0))
+        (letters-end limit closing fileLimit 0 s (u .val) (u .first) (unscreen (goodText size) (letters limit closing
+        fileLimit 0 s) (u .val) (u .first) (u .did) .0))
 
 pub data-says : (limit : ℕ) (e : Encoding) (size : ℕ) (s : List ℕ) (d : Data) (n : ℕ) → dataFor limit e size s ≡ ok d n → DataSays limit s d n
 data-says limit Binary size s d n e = binary-says limit size s d n e
@@ -294,5 +310,6 @@ sectioned limit block n s i m e = go (unbind (λ s. counted (headers limit fileL
 
     go : U₁ → Sectioned limit block n s i m
     go u =
-        go₃ u (unbind (dataFor limit (u .val .0 .encoding) (u .val .0 .size)) (λ d. ret (sectionOf block n (u .val) d)) (drop (u .first) s) i (u .second) (u .then-did))
+        go₃ u (unbind (dataFor limit (u .val .0 .encoding) (u .val .0 .size))
+        (λ d. ret (sectionOf block n (u .val) d)) (drop (u .first) s) i (u .second) (u .then-did))
         (uncount (headers limit fileLimit s) (u .val) (u .first) (u .did))

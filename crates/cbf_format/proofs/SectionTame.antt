@@ -4,21 +4,27 @@ use mathlib.Core.Bool.{Bool, true, false}
 use mathlib.Core.List.{List, [], _∷_, _++_}
 use Prim.Native.Nat.{ℕ, zero, suc, _+_}
 use lib.ListN.{length, drop}
-use Rattle.cbf_walk.specs.Parsers.{Res, bad, cut, ok, Parser, ret, plus, counted, screen, blame, onward, then, bind, Tame}
-use Rattle.cbf_walk.proofs.ParserLaws.{bad≢ok, cut≢ok, ok-val, bind-tame, ret-tame, cut-tame, counted-tame, screen-tame, blame-tame, onward-tame}
+use Rattle.cbf_walk.specs.Parsers.{Res, bad, cut, ok, Parser, ret, plus, counted, screen, blame, onward, then, bind}
+use Rattle.cbf_walk.proofs.Tame.{Tame}
+use Rattle.cbf_walk.proofs.ParserLaws.{bad≢ok, cut≢ok, ok-val, bind-tame, ret-tame, cut-tame, counted-tame}
+use Rattle.cbf_walk.proofs.ParserLaws.{screen-tame, blame-tame, onward-tame}
 use Rattle.cbf_format.specs.Text.{same}
-use Rattle.cbf_format.specs.Lines.{line, lineEnd, octets, word, semicolonLine}
+use Rattle.cbf_format.specs.Lines.{line, lineEnd, exactly, literal, semicolonLine}
 use Rattle.cbf_format.specs.Headers.{headerLine, HeaderLines, addLine, moreLines, headerLines}
 use Rattle.cbf_format.specs.declared.Encoding.{Encoding}
 use Rattle.cbf_format.specs.declared.Encoding.the-variants.{Binary, Base64}
 use Rattle.cbf_format.specs.declared.Description.{Description}
 use Rattle.cbf_format.specs.Descriptions.{Verdict, refuses, describes, verdict, concludedBy, concluded, headers}
 use Rattle.cbf_format.specs.Base64.{Letters, addSymbols, refusedText, moreText, letters, decode}
-use Rattle.cbf_format.specs.Sections.{closing, marker, fileLimit, Data, lastBoundary, afterSpan, closed, closedAfter, binaryData, goodText, decoded, blameAt, textClosed, base64Data, dataFor, Section, sectionOf, section}
-use Rattle.cbf_format.proofs.LineTame.{line-tame, lineEnd-tame, semicolonLine-tame, headerLine-tame, octets-tame, word-tame}
+use Rattle.cbf_format.specs.Sections.{closing, marker, Data, lastBoundary, afterSpan, closed, closedAfter}
+use Rattle.cbf_format.specs.Sections.{binaryData, goodText, decoded, blameAt, textClosed, base64Data, dataFor}
+use Rattle.cbf_format.specs.Sections.{Section, sectionOf, section}
+use Rattle.cbf_answers.specs.Limits.{fileLimit}
+use Rattle.cbf_format.proofs.LineTame.{line-tame, lineEnd-tame, semicolonLine-tame, headerLine-tame}
+use Rattle.cbf_format.proofs.LineTame.{octets-tame, word-tame}
 
--- Tameness depends on successes only: q is tame where each success of q comes from a success of a tame p that took as many
--- bytes, and that one always gives it.
+-- Tameness depends on successes only: q is tame where each success of q comes from a success of a tame p that took as
+-- many bytes, and that one always gives it.
 pub tame-from : {A B : Type 0} {p : Parser A} {q : Parser B} → Tame p
     → ((s : List ℕ) (c : B) (n : ℕ) → q s ≡ ok c n → (a : A) × (p s ≡ ok a n) × ((r : List ℕ) → p r ≡ ok a n → q r ≡ ok c n))
     → Tame q
@@ -39,7 +45,8 @@ headerLines-tame limit (suc f) first at =
   where
     more : ((m : ℕ) → Tame (headerLines limit f false m)) → (t : List ℕ) (n : ℕ) → Tame (moreLines (λ m. headerLines limit f false m) at (t, n))
     more ih [] n = ret-tame (record { lines = []; empty = at })
-    more ih (x ∷ t) n = bind-tame (headerLines limit f false (at + n)) (λ hs. ret (addLine at (x ∷ t) hs)) (ih (at + n)) (λ hs. ret-tame (addLine at (x ∷ t) hs))
+    more ih (x ∷ t) n = bind-tame (headerLines limit f false (at + n)) (λ hs. ret (addLine at (x ∷ t) hs))
+        (ih (at + n)) (λ hs. ret-tame (addLine at (x ∷ t) hs))
 
 -- what headers that were concluded say
 pub unconclude : (x : Res HeaderLines) (d : Description) (n : ℕ) → concluded x ≡ ok d n → (hs : HeaderLines) × (x ≡ ok hs n) × (verdict hs ≡ describes d)
@@ -55,13 +62,18 @@ pub headers-tame : (limit most : ℕ) → Tame (headers limit most)
 unfolding headers
 headers-tame limit most =
     tame-from (headerLines-tame limit most true 0)
-    (λ s d n e. let u = unconclude (headerLines limit most true 0 s) d n e in (u .0, u .1, λ r h. ap concluded h ∙ ap (λ (v : Verdict). concludedBy v n) (u .2)))
+    (λ s d n e. let u = unconclude (headerLines limit most true 0 s) d n e in (
+      u .0,
+      u .1,
+      λ r h. ap concluded h
+          ∙ ap (λ (v : Verdict). concludedBy v n) (u .2),
+    ))
 
 -- ---- BINARY
 
 pub lastBoundary-tame : Tame lastBoundary
 unfolding lastBoundary
-lastBoundary-tame = bind-tame lineEnd (λ e. word closing) lineEnd-tame (λ e. word-tame closing)
+lastBoundary-tame = bind-tame lineEnd (λ e. literal closing) lineEnd-tame (λ e. word-tame closing)
 
 pub afterSpan-tame : (limit : ℕ) → Tame (afterSpan limit)
 unfolding afterSpan
@@ -84,8 +96,8 @@ binaryOf size os n = record { octets = os; lead = 4; width = 4 + size + n }
 pub binaryData-tame : (limit size : ℕ) → Tame (binaryData limit size)
 unfolding binaryData
 binaryData-tame limit size =
-    bind-tame (λ s. blame 8 (word marker s)) (λ m. bind (octets size) (closedAfter limit size)) (blame-tame 8 (word-tame marker))
-    (λ m. bind-tame (octets size) (closedAfter limit size) (octets-tame size)
+    bind-tame (λ s. blame 8 (literal marker s)) (λ m. bind (exactly size) (closedAfter limit size)) (blame-tame 8 (word-tame marker))
+    (λ m. bind-tame (exactly size) (closedAfter limit size) (octets-tame size)
     (λ os. bind-tame (λ s. blame 9 (closed limit s)) (λ n. ret (binaryOf size os n)) (blame-tame 9 (closed-tame limit)) (λ n. ret-tame (binaryOf size os n))))
 
 -- ---- BASE64
@@ -94,7 +106,8 @@ pub letters-tame : (limit : ℕ) (boundary : List ℕ) (most at : ℕ) → Tame 
 unfolding letters
 letters-tame limit boundary zero at = cut-tame
 letters-tame limit boundary (suc f) at =
-    bind-tame (onward (λ r. counted (screen (refusedText limit boundary) (line r)))) (λ tn. moreText (same (tn .0) boundary) (λ m. letters limit boundary f m) at tn)
+    bind-tame (onward (λ r. counted (screen (refusedText limit boundary) (line r))))
+    (λ tn. moreText (same (tn .0) boundary) (λ m. letters limit boundary f m) at tn)
     (onward-tame (counted-tame (screen-tame (refusedText limit boundary) line-tame)))
     (λ tn. more (λ m. letters-tame limit boundary f m) (same (tn .0) boundary) tn)
   where

@@ -1,21 +1,25 @@
--- What a description that a section's headers gave is: each number within its bounds, and the counts agree. Assumes nothing.
+-- What a description that a section's headers gave is: each number within its bounds, and the counts agree. Assumes
+-- nothing.
 use mathlib.Core.Path.{_≡_, refl, sym, ap, _∙_, subst}
 use mathlib.Core.Option.{Option, none, some, Option·none-ne-some}
 use mathlib.Core.Bool.{Bool, true, false, _&&_, cond}
 use mathlib.Core.List.{List, [], _∷_}
 use Prim.Native.Nat.{ℕ, _≤_}
 use native.Mathlib.Omega.{arith}
-use lib.Dec.{leb, eqb}
+use lib.Dec.{leb}
 use lib.ListN.{getD}
 use borrow.Author.Tests.{leb-true, eqb-true}
+use Rattle.cbf_answers.specs.Limits.{pixelLimit}
 use Rattle.cbf_format.specs.Headers.{Header, HeaderLines, group}
 use Rattle.cbf_format.specs.declared.KnownHeader.{KnownHeader}
-use Rattle.cbf_format.specs.declared.KnownHeader.the-variants.{TransferEncoding, Size, Elements, ContentType, Kind, ByteOrder, Id, Fastest, Second, Third}
-use Rattle.cbf_format.specs.Values.{number, between, knownHeaders, named, valueOf}
+use Rattle.cbf_format.specs.declared.KnownHeader.the-variants.{TransferEncoding, Size, Elements, ContentType}
+use Rattle.cbf_format.specs.declared.KnownHeader.the-variants.{Kind, ByteOrder, Id, Fastest, Second, Third}
+use Rattle.cbf_format.specs.Values.{decimalNumber, between, knownHeaders, headerNamed, valueOf}
 use Rattle.cbf_format.specs.declared.Description.{Description}
-use Rattle.cbf_format.specs.Descriptions.{Judged, refused-at, found, ordinal, sameHeader, look, put, judgeHeader, onward as judgedOn}
-use Rattle.cbf_format.specs.Descriptions.{judge, sizeAgrees, dimensionsAgree, optional, orZero, description, agrees, Verdict, refuses}
-use Rattle.cbf_format.specs.Descriptions.{describes, described, verdictOf, verdict}
+use Rattle.cbf_format.specs.Descriptions.{Judged, refused-at, found, ordinal, sameHeader, look, put}
+use Rattle.cbf_format.specs.Descriptions.{judgeHeader, judgeOn as judgedOn, judge, sizeAgrees, dimensionsAgree}
+use Rattle.cbf_format.specs.Descriptions.{optional, orZero, description, agrees, Verdict, refuses, describes}
+use Rattle.cbf_format.specs.Descriptions.{described, verdictOf, verdict}
 use Rattle.cbf_format.proofs.LineTame.{and-true}
 
 -- ---- known headers that are the same
@@ -51,7 +55,8 @@ JudgedValued (found fs) = Valued fs
 judge-valued : (hs : List Header) (fs : List (KnownHeader × ℕ)) → Valued fs → JudgedValued (judge hs fs)
 unfolding judge
 judge-valued [] fs w = w
-judge-valued (h ∷ hs) fs w = on (judgeHeader h (named knownHeaders (h .name)) fs) (header (named knownHeaders (h .name))) (λ r w. judge-valued hs r w)
+judge-valued (h ∷ hs) fs w = on (judgeHeader h (headerNamed knownHeaders (h .name)) fs)
+    (header (headerNamed knownHeaders (h .name))) (λ r w. judge-valued hs r w)
   where
     value : (k : KnownHeader) (old v : Option ℕ) → valueOf k (h .value) ≡ v → JudgedValued (put (h .at) k old v fs)
     value k (some n) v q = tt
@@ -83,10 +88,10 @@ between-most least most (some m) n e = go (leb least m && leb m most) refl e
 -- a description that the headers may give
 pub record Known (d : Description) : Type 0 where
   pub id-in : d .id ≤ 2_147_483_647
-  pub fastest-in : d .fastest ≤ 67_108_864
-  pub second-in : d .second ≤ 67_108_864
-  pub third-in : d .third ≤ 67_108_864
-  pub few : d .elements ≤ 67_108_864
+  pub fastest-in : d .fastest ≤ pixelLimit
+  pub second-in : d .second ≤ pixelLimit
+  pub third-in : d .third ≤ pixelLimit
+  pub few : d .elements ≤ pixelLimit
   pub agree : dimensionsAgree (optional (d .fastest)) (optional (d .second)) (optional (d .third)) (d .elements) ≡ true
 
 abbrev Sound : Verdict → Type 0
@@ -98,13 +103,14 @@ unfolding verdict
 verdict-sound hs = go (judge (group (hs .lines) .headers) []) (judge-valued (group (hs .lines) .headers) [] (λ k n e. absurd (Option·none-ne-some n e)))
   where
     -- a number that was found is at most its header's bound, and so is 0
-    bounds : (fs : List (KnownHeader × ℕ)) → Valued fs → (k : KnownHeader) (least most : ℕ) → ((v : List ℕ) → valueOf k v ≡ between least most (number v))
+    bounds : (fs : List (KnownHeader × ℕ)) → Valued fs → (k : KnownHeader) (least most : ℕ)
+        → ((v : List ℕ) → valueOf k v ≡ between least most (decimalNumber v))
         → orZero (look k fs) ≤ most
     bounds fs w k least most b = go (look k fs) refl
       where
         go : (o : Option ℕ) → look k fs ≡ o → orZero o ≤ most
         go none q = omega arith
-        go (some n) q = let v = w k n q in between-most least most (number (v .0)) n (sym (b (v .0)) ∙ v .1)
+        go (some n) q = let v = w k n q in between-most least most (decimalNumber (v .0)) n (sym (b (v .0)) ∙ v .1)
 
     agreed : (e n k : ℕ) (fs : List (KnownHeader × ℕ)) (b : Bool) → agrees (description e n k fs) ≡ b → look Elements fs ≡ some k → Valued fs
         → Sound (cond b (describes (description e n k fs)) (refuses 7 (hs .empty)))
@@ -114,10 +120,10 @@ verdict-sound hs = go (judge (group (hs .lines) .headers) []) (judge-valued (gro
         let a = and-true (sizeAgrees (d .compression) (d .kind) n k) agreed q in (
           record {
             id-in = bounds fs w Id 1 2_147_483_647 (λ v. refl);
-            fastest-in = bounds fs w Fastest 1 67_108_864 (λ v. refl);
-            second-in = bounds fs w Second 1 67_108_864 (λ v. refl);
-            third-in = bounds fs w Third 1 67_108_864 (λ v. refl);
-            few = subst (λ (o : Option ℕ). orZero o ≤ 67_108_864) h (bounds fs w Elements 0 67_108_864 (λ v. refl));
+            fastest-in = bounds fs w Fastest 1 pixelLimit (λ v. refl);
+            second-in = bounds fs w Second 1 pixelLimit (λ v. refl);
+            third-in = bounds fs w Third 1 pixelLimit (λ v. refl);
+            few = subst (λ (o : Option ℕ). orZero o ≤ pixelLimit) h (bounds fs w Elements 0 pixelLimit (λ v. refl));
             agree = a .1;
           },
           a .0,

@@ -1,11 +1,11 @@
 -- BASE64 text. Document 01, "The octets and their end".
 use mathlib.Core.Option.{Option, none, some}
-use mathlib.Core.Bool.{Bool, true, false, _&&_, _||_, cond}
+use mathlib.Core.Bool.{Bool, true, false, _&&_, cond}
 use mathlib.Core.List.{List, [], _∷_, _++_}
 use Prim.Native.Nat.{ℕ, zero, suc, _+_, _*_, _-_, _/_, _%_}
 use lib.Dec.{leb, ltb, eqb}
 use lib.ListN.{length}
-use Rattle.cbf_walk.specs.Parsers.{Res, bad, cut, ok, Parser, ret, bind, counted, screen, onward}
+use Rattle.cbf_walk.specs.Parsers.{cut, Parser, ret, bind, counted, screen, onward}
 use Rattle.cbf_format.specs.declared.Symbol.{Symbol}
 use Rattle.cbf_format.specs.declared.Symbol.the-variants.{Letter, Pad, Blank, Other}
 use Rattle.cbf_format.specs.Text.{blank, textual, same}
@@ -87,7 +87,8 @@ isPad Pad = true
 isPad Blank = false
 isPad Other = false
 
--- a group by its six-bit numbers; whether its third and fourth symbols are pads; whether it is the last; and what follows it
+-- a group by its six-bit numbers; whether its third and fourth symbols are pads; whether it is the last; and what
+-- follows it
 abbrev pub fromGroup : Option ℕ → Option ℕ → Option ℕ → Option ℕ → Bool → Bool → Bool → Option (List ℕ) → Option (List ℕ)
 fromGroup (some a) (some b) (some c) (some d) p q last r = addOctets ((a * 4 + b / 16) ∷ (b % 16 * 16 + c / 4) ∷ (c % 4 * 64 + d) ∷ []) r
 fromGroup (some a) (some b) (some c) none p q last r = lastGroup (q && (last && eqb (c % 4) 0)) ((a * 4 + b / 16) ∷ (b % 16 * 16 + c / 4) ∷ [])

@@ -9,7 +9,8 @@ use Rattle.cbf_format.specs.declared.Symbol.{Symbol}
 use Rattle.cbf_format.specs.Text.{bytes}
 use Rattle.cbf_format.specs.Base64.{addSymbols}
 
--- "translated into an ASCII character using the mapping"; document 01: "Letters A to Z are 0 to 25, a to z 26 to 51, .."
+-- "translated into an ASCII character using the mapping"; document 01: "Letters A to Z are 0 to 25, a to z 26 to 51,
+-- .."
 abbrev pub alphabet : List ℕ
 alphabet = bytes "ABCDEFGHIJKLMNOPQRSTUVWXYZabcdefghijklmnopqrstuvwxyz0123456789+/"
 
@@ -17,8 +18,8 @@ unfoldable pub letterOf : ℕ → ℕ
 letterOf n = getD alphabet n 0
 
 -- "the high-order six bits (c1 >> 2) of the first octet, then .. [(c1 & 3)<<4 | (c2>>4)], then .. [(c2 & 15)<<2 |
--- (c3>>6)], then .. (c3 & 63)"; "short groups of octets padded on the right with one '=' if c3 is missing, and with '=='
--- if both c2 and c3 are missing"
+-- (c3>>6)], then .. (c3 & 63)"; "short groups of octets padded on the right with one '=' if c3 is missing, and with
+-- '==' if both c2 and c3 are missing"
 unfoldable pub encode : List ℕ → List ℕ
 encode [] = []
 encode (c1 ∷ []) = letterOf (c1 / 4) ∷ letterOf (c1 % 4 * 16) ∷ 61 ∷ 61 ∷ []

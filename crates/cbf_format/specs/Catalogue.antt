@@ -45,8 +45,8 @@ zeros (suc n) = 0 ∷ zeros n
 abbrev pub label : List ℕ → List ℕ
 label name = name ++ zeros (labelWidth - length name)
 
--- 64 bytes: "32-bit position of the first octet .., size, elements; one byte each for compression .., type .., encoding .., 0; 32-bit
--- ID and three dimensions, 0 if absent"; and the label
+-- 64 bytes: "32-bit position of the first octet .., size, elements; one byte each for compression .., type ..,
+-- encoding .., 0; 32-bit ID and three dimensions, 0 if absent"; and the label
 unfoldable pub entry : ℕ → ℕ → ℕ → Compression → ElementType → Encoding → ℕ → ℕ → ℕ → ℕ → List ℕ → List ℕ
 unfolding octets
 entry at size elements compression type encoding id fastest second third name =

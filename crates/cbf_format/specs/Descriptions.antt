@@ -11,12 +11,13 @@ use Rattle.cbf_pixels.specs.declared.Compression.{Compression}
 use Rattle.cbf_pixels.specs.declared.Compression.the-variants.{Uncompressed, ByteOffset}
 use Rattle.cbf_pixels.specs.Uncompressed.{octetsPer}
 use Rattle.cbf_format.specs.declared.KnownHeader.{KnownHeader}
-use Rattle.cbf_format.specs.declared.KnownHeader.the-variants.{TransferEncoding, Size, Elements, ContentType, Kind, ByteOrder, Id, Fastest, Second, Third}
+use Rattle.cbf_format.specs.declared.KnownHeader.the-variants.{TransferEncoding, Size, Elements, ContentType}
+use Rattle.cbf_format.specs.declared.KnownHeader.the-variants.{Kind, ByteOrder, Id, Fastest, Second, Third}
 use Rattle.cbf_format.specs.declared.Description.{Description}
 use Rattle.cbf_format.specs.declared.Encoding.{Encoding}
 use Rattle.cbf_format.specs.declared.Encoding.the-variants.{Binary, Base64}
 use Rattle.cbf_format.specs.Headers.{Header, HeaderLines, headerLines, group}
-use Rattle.cbf_format.specs.Values.{knownHeaders, named, valueOf}
+use Rattle.cbf_format.specs.Values.{knownHeaders, headerNamed, valueOf}
 
 -- a description of these parts
 abbrev pub descriptionOf : Encoding → ℕ → ℕ → Compression → ElementType → ℕ → ℕ → ℕ → ℕ → Description
@@ -38,7 +39,8 @@ abbrev pub optional : ℕ → Option ℕ
 optional zero = none
 optional (suc n) = some (suc n)
 
--- ---- "6 over the headers in file order": the known headers with their values, or the place of the header that is repeated
+-- ---- "6 over the headers in file order": the known headers with their values, or the place of the header that is
+-- repeated
 -- or has a bad value
 
 pub data Judged : Type 0 where
@@ -76,13 +78,13 @@ abbrev pub judgeHeader : Header → Option KnownHeader → List (KnownHeader × 
 judgeHeader h none fs = found fs
 judgeHeader h (some k) fs = put (h .at) k (look k fs) (valueOf k (h .value)) fs
 
-abbrev pub onward : (List (KnownHeader × ℕ) → Judged) → Judged → Judged
-onward go (refused-at p) = refused-at p
-onward go (found fs) = go fs
+abbrev pub judgeOn : (List (KnownHeader × ℕ) → Judged) → Judged → Judged
+judgeOn go (refused-at p) = refused-at p
+judgeOn go (found fs) = go fs
 
 unfoldable pub judge : List Header → List (KnownHeader × ℕ) → Judged
 judge [] fs = found fs
-judge (h ∷ hs) fs = onward (λ r. judge hs r) (judgeHeader h (named knownHeaders (h .name)) fs)
+judge (h ∷ hs) fs = judgeOn (λ r. judge hs r) (judgeHeader h (headerNamed knownHeaders (h .name)) fs)
 
 -- ---- 7: "Counts agree when"
 
@@ -90,7 +92,8 @@ abbrev pub sizeAgrees : Compression → ElementType → ℕ → ℕ → Bool
 sizeAgrees Uncompressed t size elements = eqb size (elements * octetsPer t)
 sizeAgrees ByteOffset t size elements = leb elements size && leb size (15 * elements)
 
--- "Second only with Fastest, Third only with Second; with Fastest given, the product of the given dimensions = elements"
+-- "Second only with Fastest, Third only with Second; with Fastest given, the product of the given dimensions =
+-- elements"
 abbrev pub dimensionsAgree : Option ℕ → Option ℕ → Option ℕ → ℕ → Bool
 dimensionsAgree none none none e = true
 dimensionsAgree none none (some c) e = false

@@ -2,14 +2,15 @@
 use mathlib.Core.Option.{Option, none, some}
 use mathlib.Core.Bool.{Bool, true, false, _&&_, _||_, cond}
 use mathlib.Core.List.{List, [], _∷_}
-use Prim.Native.Nat.{ℕ, zero, suc, _+_}
+use Prim.Native.Nat.{ℕ, suc, _+_}
 use lib.Dec.{leb, eqb}
 use lib.ListN.{length, take, drop}
-use Rattle.cbf_walk.specs.Parsers.{Res, Parser, ret, bind, counted, screen}
-use Rattle.cbf_walk.specs.Reading.{Item, Reading, refused, good, readF}
+use Rattle.cbf_walk.specs.Parsers.{Parser, ret, bind, counted, screen}
+use Rattle.cbf_walk.specs.Reading.{Item, Reading, refused, readF}
 use Rattle.cbf_format.specs.Text.{bytes, blank, blanks, digit, lowers, same, skip}
 use Rattle.cbf_format.specs.Lines.{line, refusedByte, textLine}
-use Rattle.cbf_format.specs.Sections.{opening, fileLimit, Section, section}
+use Rattle.cbf_format.specs.Sections.{opening, Section, section}
+use Rattle.cbf_answers.specs.Limits.{fileLimit}
 
 -- ---- "The first line starts with `###CBF: VERSION`, one or more blanks, the digit 0 or 1, a point, a digit"
 
@@ -60,8 +61,8 @@ abbrev pub startsField : List ℕ → Bool
 startsField [] = false
 startsField (x ∷ t) = eqb x 59
 
--- "a line starting with `;` opens a field. If it is `;` and blanks only, and the next line is exactly (the boundary) .. the field is a
--- binary section. Any other field ends at its next line starting with `;`"
+-- "a line starting with `;` opens a field. If it is `;` and blanks only, and the next line is exactly (the boundary)
+-- .. the field is a binary section. Any other field ends at its next line starting with `;`"
 abbrev pub nextField : Field → List ℕ → ℕ → Field
 nextField first-line t n = outside
 nextField outside t n = cond (startsField t) (cond (blanks (drop 1 t)) (opened n) (inside n)) outside
@@ -72,7 +73,8 @@ abbrev pub upToBlank : List ℕ → List ℕ
 upToBlank [] = []
 upToBlank (x ∷ t) = cond (blank x) [] (x ∷ upToBlank t)
 
--- "A line outside fields starting with `data_` (any case) sets the block name: what follows up to a blank or the line's end"
+-- "A line outside fields starting with `data_` (any case) sets the block name: what follows up to a blank or the
+-- line's end"
 abbrev pub nextBlock : Field → List ℕ → List ℕ → List ℕ
 nextBlock first-line t block = block
 nextBlock outside t block = cond (same (lowers (take 5 t)) (bytes "data_")) (upToBlank (drop 5 t)) block

@@ -1,10 +1,10 @@
 -- The header lines of a section, and the headers that they make. Document 01, "A section's headers".
 use mathlib.Core.Option.{Option, none, some}
-use mathlib.Core.Bool.{Bool, true, false, _&&_, _||_, cond, not}
+use mathlib.Core.Bool.{Bool, true, false, _||_, cond, not}
 use mathlib.Core.List.{List, [], _∷_, _++_}
 use Prim.Native.Nat.{ℕ, zero, suc, _+_}
 use lib.Dec.{eqb}
-use Rattle.cbf_walk.specs.Parsers.{Res, cut, Parser, ret, bind, counted, screen, onward}
+use Rattle.cbf_walk.specs.Parsers.{cut, Parser, ret, bind, counted, screen, onward}
 use Rattle.cbf_format.specs.Text.{blank, digit, letter, skip, trim}
 use Rattle.cbf_format.specs.Lines.{line, refusedByte}
 

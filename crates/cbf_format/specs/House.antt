@@ -1,5 +1,6 @@
--- House form: document 01's own term for the one way in which a section is written. Document 01, "House form, catalogue, listing":
--- "Replacement rewrites the span .., always byte offset, keeping type, ID and dimensions; other headers go."
+-- House form: document 01's own term for the one way in which a section is written. Document 01, "House form,
+-- catalogue, listing": "Replacement rewrites the span .., always byte offset, keeping type, ID and dimensions; other
+-- headers go."
 use mathlib.Core.Option.{Option, none, some}
 use mathlib.Core.List.{List, [], _∷_, _++_}
 use Prim.Native.Nat.{ℕ}
@@ -9,7 +10,7 @@ use Rattle.cbf_format.specs.Text.{bytes}
 use Rattle.cbf_format.specs.Values.{typeWords}
 use Rattle.cbf_format.specs.declared.Description.{Description}
 use Rattle.cbf_format.specs.Descriptions.{optional}
-use Rattle.cbf_walk.specs.Edits.{exchange, exchangeBoth}
+use Rattle.cbf_walk.specs.Exchange.{exchange, exchangeBoth}
 use Rattle.cbf_format.specs.Sections.{opening, closing, marker}
 use Rattle.cbf_format.specs.Listing.{printed, Placed}
 
@@ -26,7 +27,8 @@ abbrev pub numberLine : List ℕ → Option ℕ → List (List ℕ) → List (Li
 numberLine name none ls = ls
 numberLine name (some n) ls = (name ++ printed n) ∷ ls
 
--- the header lines of a section with that many octets; "Dimension lines, if any, follow the elements line, fastest first"
+-- the header lines of a section with that many octets; "Dimension lines, if any, follow the elements line, fastest
+-- first"
 unfoldable pub houseLines : ℕ → Description → List (List ℕ)
 houseLines size d =
     bytes "Content-Type: application/octet-stream;"
@@ -55,4 +57,5 @@ replacedFile file p os = exchange file (p .boundary) (p .section .width) (house 
 unfoldable pub replacedBoth : List ℕ → ℕ → Placed → List ℕ → ℕ → Placed → List ℕ → List ℕ
 unfolding exchangeBoth
 replacedBoth file i p os j q os′ =
-    exchangeBoth (ltb i j) file (p .boundary) (p .section .width) (house (p .section .description) os) (q .boundary) (q .section .width) (house (q .section .description) os′)
+    exchangeBoth (ltb i j) file (p .boundary) (p .section .width) (house (p .section .description) os) (q .boundary)
+    (q .section .width) (house (q .section .description) os′)

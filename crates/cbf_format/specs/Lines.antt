@@ -2,15 +2,11 @@
 use mathlib.Core.Option.{Option, none, some}
 use mathlib.Core.Bool.{Bool, true, false, _&&_, cond}
 use mathlib.Core.List.{List, [], _∷_}
-use Prim.Native.Nat.{ℕ, suc, _+_}
+use Prim.Native.Nat.{ℕ, suc}
 use lib.Dec.{leb, ltb, eqb}
-use lib.ListN.{length, take, drop}
-use Rattle.cbf_walk.specs.Parsers.{Res, bad, cut, ok, Parser, hd, bind, counted, screen}
+use lib.ListN.{length, take}
+use Rattle.cbf_walk.specs.Parsers.{Res, bad, cut, ok, Parser, hd, counted, screen}
 use Rattle.cbf_format.specs.Text.{blanks, textual, same}
-
--- "Text line: at most 80 characters, line end not counted"
-abbrev pub lineLimit : ℕ
-lineLimit = 80
 
 -- "A line ends with 13 10, 13 alone, 10 alone, or the file's end": how long a line end is that begins with 13
 abbrev pub endLength : Option ℕ → ℕ
@@ -33,8 +29,8 @@ abbrev pub line : Parser (List ℕ)
 line [] = ok [] 0
 line (x ∷ xs) = let r = line xs in lineOr (eqb x 10) (eqb x 13) x xs r
 
--- "Bytes of a line are tested in order; at the same byte 3 comes before 2": the first byte of a text line that is refused,
--- where these are the bytes from column i on
+-- "Bytes of a line are tested in order; at the same byte 3 comes before 2": the first byte of a text line that is
+-- refused, where these are the bytes from column i on
 abbrev pub refusedByte : ℕ → ℕ → List ℕ → Option (ℕ × ℕ)
 refusedByte limit i [] = none
 refusedByte limit i (x ∷ t) = cond (textual x) (cond (ltb i limit) (refusedByte limit (suc i) t) (some (2, i))) (some (3, i))
@@ -50,12 +46,12 @@ unfoldable pub lineEnd : Parser (List ℕ × ℕ)
 lineEnd s = screen onlyEnd (counted (line s))
 
 -- n bytes, or refusal 9 at the file's end where there are fewer
-unfoldable pub octets : ℕ → Parser (List ℕ)
-octets n s = cond (leb n (length s)) (ok (take n s) n) (bad 9 (length s))
+unfoldable pub exactly : ℕ → Parser (List ℕ)
+exactly n s = cond (leb n (length s)) (ok (take n s) n) (bad 9 (length s))
 
 -- just these bytes
-unfoldable pub word : List ℕ → Parser (List ℕ)
-word w s = screen (λ t. cond (same t w) none (some (9, 0))) (octets (length w) s)
+unfoldable pub literal : List ℕ → Parser (List ℕ)
+literal w s = screen (λ t. cond (same t w) none (some (9, 0))) (exactly (length w) s)
 
 -- "`;` with at most 79 blanks", where a line has at most 80 characters
 abbrev pub semicolon : ℕ → List ℕ → Option (ℕ × ℕ)

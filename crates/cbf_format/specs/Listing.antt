@@ -1,6 +1,6 @@
 -- The sections of a file, and its listing. Document 01, "House form, catalogue, listing".
 use mathlib.Core.Option.{Option, none, some}
-use mathlib.Core.Bool.{Bool, true, false, cond}
+use mathlib.Core.Bool.{cond}
 use mathlib.Core.List.{List, [], _∷_, _++_}
 use Prim.Native.Nat.{ℕ, zero, suc, _+_, _/_, _%_}
 use lib.Dec.{ltb}
@@ -70,7 +70,8 @@ named (x ∷ t) = 32 ∷ x ∷ t
 abbrev pub spaced : List ℕ → List ℕ → List ℕ
 spaced t r = t ++ (32 ∷ r)
 
--- "section number, then .. position, size, elements, `none` or `byte_offset`, type, and the whole block name, single spaces between"
+-- "section number, then .. position, size, elements, `none` or `byte_offset`, type, and the whole block name, single
+-- spaces between"
 unfoldable pub sectionText : ℕ → ℕ → ℕ → ℕ → Compression → ElementType → List ℕ → List ℕ
 sectionText number at size elements compression type name =
     spaced (printed number)

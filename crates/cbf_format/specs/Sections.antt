@@ -1,6 +1,5 @@
 -- A binary section, from its boundary line on. Document 01, "The octets and their end".
 use mathlib.Core.Option.{Option, none, some}
-use mathlib.Core.Bool.{Bool, true, false, _&&_, cond}
 use mathlib.Core.List.{List, [], _∷_}
 use Prim.Native.Nat.{ℕ, _+_}
 use lib.ListN.{length, drop}
@@ -8,10 +7,11 @@ use Rattle.cbf_walk.specs.Parsers.{Res, bad, cut, ok, Parser, ret, plus, bind, 
 use Rattle.cbf_format.specs.declared.Encoding.{Encoding}
 use Rattle.cbf_format.specs.declared.Encoding.the-variants.{Binary, Base64}
 use Rattle.cbf_format.specs.Text.{bytes}
-use Rattle.cbf_format.specs.Lines.{line, lineEnd, octets, word, semicolonLine}
+use Rattle.cbf_format.specs.Lines.{lineEnd, exactly, literal, semicolonLine}
 use Rattle.cbf_format.specs.declared.Description.{Description}
 use Rattle.cbf_format.specs.Descriptions.{headers}
 use Rattle.cbf_format.specs.Base64.{Letters, letters, decode, sized}
+use Rattle.cbf_answers.specs.Limits.{fileLimit}
 
 abbrev pub opening : List ℕ
 opening = bytes "--CIF-BINARY-FORMAT-SECTION--"
@@ -22,23 +22,20 @@ closing = bytes "--CIF-BINARY-FORMAT-SECTION----"
 abbrev pub marker : List ℕ
 marker = 0x0c ∷ 0x1a ∷ 0x04 ∷ 0xd5 ∷ []
 
--- "File and result file: at most 1,073,741,824 bytes", and so no more lines
-abbrev pub fileLimit : ℕ
-fileLimit = 1_073_741_824
-
--- What follows the empty line: the octets, how many bytes stand before the first of them, and how many bytes there are up to
--- the last hyphen of the closing boundary, where the span ends. (Document 01's term: the span of a section is from the opening
--- boundary's first hyphen to the closing boundary's last.)
+-- What follows the empty line: the octets, how many bytes stand before the first of them, and how many bytes there
+-- are up to the last hyphen of the closing boundary, where the span ends. (Document 01's term: the span of a section
+-- is from the opening boundary's first hyphen to the closing boundary's last.)
 pub record Data : Type 0 where
   pub octets : List ℕ
   pub lead : ℕ
   pub width : ℕ
 
--- ---- BINARY: "0C 1A 04 D5, then exactly the declared octets, a line end, the line .., then `;` with at most 79 blanks"
+-- ---- BINARY: "0C 1A 04 D5, then exactly the declared octets, a line end, the line .., then `;` with at most 79
+-- blanks"
 
 -- the bytes of the line end and the closing boundary
 unfoldable pub lastBoundary : Parser (List ℕ)
-lastBoundary = bind lineEnd (λ e. word closing)
+lastBoundary = bind lineEnd (λ e. literal closing)
 
 -- what follows the span
 unfoldable pub afterSpan : ℕ → Parser (List ℕ)
@@ -52,7 +49,7 @@ abbrev pub closedAfter : ℕ → ℕ → List ℕ → Parser Data
 closedAfter limit size os = bind (λ s. blame 9 (closed limit s)) (λ n. ret (record { octets = os; lead = 4; width = 4 + size + n }))
 
 unfoldable pub binaryData : ℕ → ℕ → Parser Data
-binaryData limit size = bind (λ s. blame 8 (word marker s)) (λ m. bind (octets size) (closedAfter limit size))
+binaryData limit size = bind (λ s. blame 8 (literal marker s)) (λ m. bind (exactly size) (closedAfter limit size))
 
 -- ---- BASE64: "text lines until that closing line; then the same `;` line, judged by 9 alone, at the closing line"
 
@@ -78,7 +75,12 @@ textClosed limit (bad k p) s = bad k p
 textClosed limit cut s = cut
 textClosed limit (ok l n) s =
     blameAt 9 (l .closing)
-    (plus n (bind (semicolonLine limit) (λ e. ret (record { octets = decoded (decode (l .symbols)); lead = 0; width = l .closing + length closing })) (drop n s)))
+    (plus n (bind (semicolonLine limit) (λ e. ret (record {
+      octets = decoded (decode (l .symbols));
+      lead = 0;
+      width =
+          l .closing + length closing;
+    })) (drop n s)))
 
 unfoldable pub base64Data : ℕ → ℕ → Parser Data
 base64Data limit size s = textClosed limit (screen (goodText size) (letters limit closing fileLimit 0 s)) s

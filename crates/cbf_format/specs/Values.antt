@@ -5,10 +5,12 @@ use mathlib.Core.List.{List, [], _∷_}
 use Prim.Native.Nat.{ℕ, suc, _+_, _*_, _-_}
 use lib.Dec.{leb, eqb}
 use lib.ListN.{length}
+use Rattle.cbf_answers.specs.Limits.{fileLimit, pixelLimit}
 use Rattle.cbf_pixels.specs.declared.ElementType.{ElementType}
 use Rattle.cbf_pixels.specs.declared.ElementType.the-variants.{U8, S8, U16, S16, U32, S32}
 use Rattle.cbf_format.specs.declared.KnownHeader.{KnownHeader}
-use Rattle.cbf_format.specs.declared.KnownHeader.the-variants.{TransferEncoding, Size, Elements, ContentType, Kind, ByteOrder, Id, Fastest, Second, Third}
+use Rattle.cbf_format.specs.declared.KnownHeader.the-variants.{TransferEncoding, Size, Elements, ContentType}
+use Rattle.cbf_format.specs.declared.KnownHeader.the-variants.{Kind, ByteOrder, Id, Fastest, Second, Third}
 use Rattle.cbf_format.specs.declared.Conversion.{Conversion}
 use Rattle.cbf_format.specs.declared.Conversion.the-variants.{Unseen, Seen, Wrong}
 use Rattle.cbf_format.specs.Text.{bytes, digit, lowers, same, trim, before, after}
@@ -22,8 +24,8 @@ abbrev pub decimal : ℕ → List ℕ → ℕ
 decimal n [] = n
 decimal n (x ∷ t) = decimal (n * 10 + (x - 48)) t
 
-unfoldable pub number : List ℕ → Option ℕ
-number t = cond ((leb 1 (length t) && leb (length t) 10) && digits t) (some (decimal 0 t)) none
+unfoldable pub decimalNumber : List ℕ → Option ℕ
+decimalNumber t = cond ((leb 1 (length t) && leb (length t) 10) && digits t) (some (decimal 0 t)) none
 
 abbrev pub between : ℕ → ℕ → Option ℕ → Option ℕ
 between least most none = none
@@ -113,9 +115,9 @@ abbrev pub knownHeaders : List KnownHeader
 knownHeaders = TransferEncoding ∷ Size ∷ Elements ∷ ContentType ∷ Kind ∷ ByteOrder ∷ Id ∷ Fastest ∷ Second ∷ Third ∷ []
 
 -- the header of a list whose name the text is, in any case
-abbrev pub named : List KnownHeader → List ℕ → Option KnownHeader
-named [] t = none
-named (h ∷ hs) t = let r = named hs t in cond (same (nameOf h) (lowers t)) (some h) r
+abbrev pub headerNamed : List KnownHeader → List ℕ → Option KnownHeader
+headerNamed [] t = none
+headerNamed (h ∷ hs) t = let r = headerNamed hs t in cond (same (nameOf h) (lowers t)) (some h) r
 
 -- "unsigned or signed, 8, 16 or 32"
 abbrev pub typeWords : ElementType → List ℕ
@@ -133,12 +135,12 @@ typeNames = typeWords U8 ∷ typeWords S8 ∷ typeWords U16 ∷ typeWords S16 �
 -- the value of a known header, none where it is bad
 abbrev pub valueOf : KnownHeader → List ℕ → Option ℕ
 valueOf TransferEncoding v = oneOf 0 (bytes "binary" ∷ bytes "base64" ∷ []) v
-valueOf Size v = between 0 1_073_741_824 (number v)
-valueOf Elements v = between 0 67_108_864 (number v)
+valueOf Size v = between 0 fileLimit (decimalNumber v)
+valueOf Elements v = between 0 pixelLimit (decimalNumber v)
 valueOf ContentType v = contentType (parts false v)
 valueOf Kind v = quotedOneOf 1 typeNames (unquote v)
 valueOf ByteOrder v = quotedOneOf 1 (bytes "little_endian" ∷ []) (unquote v)
-valueOf Id v = between 1 2_147_483_647 (number v)
-valueOf Fastest v = between 1 67_108_864 (number v)
-valueOf Second v = between 1 67_108_864 (number v)
-valueOf Third v = between 1 67_108_864 (number v)
+valueOf Id v = between 1 2_147_483_647 (decimalNumber v)
+valueOf Fastest v = between 1 pixelLimit (decimalNumber v)
+valueOf Second v = between 1 pixelLimit (decimalNumber v)
+valueOf Third v = between 1 pixelLimit (decimalNumber v)

@@ -1,10 +1,9 @@
-// The file format: document 01's rules as definitions (specs/), their laws (proofs/), and the types that contracts speak of.
+// The file format: document 01's rules as definitions (specs/), their laws (proofs/), and the types that contracts
+// speak of.
 
+use cbf_answers::Refusal;
 use cbf_pixels::Compression;
 use cbf_pixels::ElementType;
-
-// "Text line: at most 80 characters, line end not counted." The calls for users take this limit; what reads takes it as a parameter.
-pub const LINE_LIMIT: usize = 80;
 
 // The label of a catalogue's entry: "zero-filled to 32".
 pub const LABEL_WIDTH: usize = 32;
@@ -65,4 +64,25 @@ pub enum Conversion {
     Unseen,
     Seen,
     Wrong,
+}
+
+// A part of the file.
+pub struct Range {
+    pub from: usize,
+    pub to: usize,
+}
+
+// A section: its headers, its span (document 01's term: from the opening boundary's first hyphen to the closing
+// boundary's last), the place of the first octet (BASE64: of the text), and its data block's name.
+pub struct Section {
+    pub description: Description,
+    pub from: usize,
+    pub to: usize,
+    pub first: usize,
+    pub block: Range,
+}
+
+pub enum Numbered {
+    Refused(Refusal),
+    As(Section),
 }

@@ -3,12 +3,12 @@ use mathlib.Core.Bool.{Bool, true, false}
 use mathlib.Core.List.{List}
 use Prim.Native.Nat.{ℕ}
 use Rattle.cbf_walk.specs.Reading.{Item, Reading, refused}
-use Rattle.cbf_pixels.specs.Answers.{Outcome}
+use Rattle.cbf_answers.specs.Answers.{Outcome}
 use Rattle.cbf_format.specs.Sections.{Section}
 use Rattle.cbf_format.specs.Files.{State}
 use Rattle.cbf_format.specs.Listing.{listing}
-use Rattle.cbf_write.specs.Rooms.{roomFor}
-use Rattle.cbf.specs.Outcomes.{shown}
+use Rattle.cbf_answers.specs.Rooms.{roomFor}
+use Rattle.cbf_listing.specs.Listing.{shown}
 
 -- "Input over 65,536 bytes: `refused 4 at 0`"; else the listing of the file, or the line of its refusal. The flag says
 -- that the input goes on behind what was read.

@@ -1,13 +1,13 @@
 // Reads a file from standard input and prints its listing, or the line of its refusal.
-use cbf_format::LINE_LIMIT;
-use cbf_pixels::Answer;
-use cbf_pixels::Refusal;
+use cbf_answers::Answer;
+use cbf_answers::LINE_LIMIT;
+use cbf_answers::Refusal;
 use libc::STDIN_FILENO;
 use libc::STDOUT_FILENO;
 ghost use mathlib.Core.Path.{_≡_};
 ghost use lib.ListN.{length};
-ghost use Rattle.cbf_pixels.specs.Answers.{outcome, written};
-ghost use Rattle.cbf_format.specs.Lines.{lineLimit};
+ghost use Rattle.cbf_answers.specs.Answers.{outcome, written};
+ghost use Rattle.cbf_answers.specs.Limits.{lineLimit};
 ghost use Rattle.cbf_format.specs.Files.{read};
 ghost use Rattle.cbf_list.specs.Texts.{listText, textOutcome};
 

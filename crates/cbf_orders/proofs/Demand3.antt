@@ -12,26 +12,29 @@ use lib.Seq.{take-at}
 use lib.IntN.{ℤ}
 use Rattle.cbf_walk.specs.Reading.{good}
 use Rattle.cbf_walk.proofs.OrderLaws.{SameOutsideBoth}
-use Rattle.cbf_pixels.specs.Octets.{pick}
 use Rattle.cbf_pixels.specs.Pixels.{least, greatest, allWithin, packByteOffset, unpackByteOffset}
-use Rattle.cbf_pixels.specs.Answers.{Outcome, gives, refuses, written, isSome, pixelsOf, unpackPixels, octetLimit}
+use Rattle.cbf_answers.specs.Answers.{Outcome, gives, refuses, written}
+use Rattle.cbf_pixels.specs.PixelCalls.{isSome, pixelsOf, unpackPixels}
+use Rattle.cbf_answers.specs.Limits.{octetLimit, lineLimit, fileLimit}
 use Rattle.cbf_pixels.proofs.Bounds.{packed-limit}
 use Rattle.cbf_pixels.proofs.Round.{unpack-pack}
 use Rattle.cbf_format.specs.declared.Encoding.the-variants.{Binary}
-use Rattle.cbf_format.specs.Lines.{lineLimit}
 use Rattle.cbf_format.specs.declared.Description.{Description}
-use Rattle.cbf_format.specs.Sections.{fileLimit, Section}
+use Rattle.cbf_format.specs.Sections.{Section}
 use Rattle.cbf_format.specs.Files.{Tree, read}
 use Rattle.cbf_format.specs.Listing.{Placed, sections, numbered}
 use Rattle.cbf_format.proofs.HouseSections.{housedSection}
 use Rattle.cbf_format.proofs.LineTame.{and-true}
 use Rattle.cbf_format.proofs.ReplacementLaws.{SpanAt, span-at, packed-fits, Next, Orders, orders}
-use Rattle.cbf_sections.specs.SectionCalls.{value, orMissing, sectionOf, frameOf, frameFor, frameOutcome, framePixels}
+use Rattle.cbf_sections.specs.SectionCalls.{value, orMissing, sectionNumbered, frameOf, frameFor, frameOutcome}
+use Rattle.cbf_sections.specs.SectionCalls.{framePixels}
 use Rattle.cbf_sections.proofs.SectionCallLaws.{section-answer}
-use Rattle.cbf_write.specs.Rooms.{roomFor}
-use Rattle.cbf_replace.specs.ReplaceCalls.{frameFits, roomForFile, replacePacked, replaceFitting, replaceOutcome, replacedBy}
-use Rattle.cbf_orders.specs.Orders.{replaceCall, replacementOf, OrderOutcome, secondCall, orderOf, secondWritten}
-use Rattle.cbf_orders.specs.Orders.{Premises, Room, CallSays, SecondSays, ReadsBack, SpansKeptFrom, one, both, TwoOrders}
+use Rattle.cbf_answers.specs.Rooms.{roomFor}
+use Rattle.cbf_replace.specs.ReplaceCalls.{frameFits, roomForFile, replacePacked, replaceFitting, replaceOutcome}
+use Rattle.cbf_replace.specs.ReplaceCalls.{replacedBy}
+use Rattle.cbf_orders.specs.Orders.{replaceCall, replacementOf, OrderOutcome, secondCall, orderOf}
+use Rattle.cbf_orders.specs.Orders.{secondWritten, Premises, Room, CallSays, SecondSays, ReadsBack}
+use Rattle.cbf_orders.specs.Orders.{SpansKeptFrom, one, both, TwoOrders}
 
 -- ---- one call
 
@@ -43,13 +46,14 @@ pub record Fitting (file : List ℕ) (n : ℕ) (p : Placed) (frame : List ℤ) :
   pub binary : p .section .description .encoding ≡ Binary
   pub fits : frameFits (p .section .description) frame ≡ true
 
-pub counted : (d : Description) (frame : List ℤ) → frameFits d frame ≡ true → (length frame ≡ d .elements) × (allWithin (least (d .kind)) (greatest (d .kind)) frame ≡ true)
+pub counted : (d : Description) (frame : List ℤ) → frameFits d frame ≡ true → (length frame ≡ d .elements)
+    × (allWithin (least (d .kind)) (greatest (d .kind)) frame ≡ true)
 unfolding frameFits
 counted d frame e = let a = and-true _ (allWithin (least (d .kind)) (greatest (d .kind)) frame) e in (eqb-true (length frame) (d .elements) (a .0), a .1)
 
 module _ {file : List ℕ} {n : ℕ} {p : Placed} {frame : List ℤ} (c : Fitting file n p frame) where
-  here : sectionOf (read lineLimit file) n ≡ value p
-  here = ap (λ (r : _). sectionOf r n) (c .accepted) ∙ ap orMissing (c .is-at)
+  here : sectionNumbered (read lineLimit file) n ≡ value p
+  here = ap (λ (r : _). sectionNumbered r n) (c .accepted) ∙ ap orMissing (c .is-at)
 
   known : SpanAt file p
   known = span-at lineLimit n file (c .tree) p (c .accepted) (c .is-at)
@@ -75,16 +79,17 @@ module _ (new old : List ℕ) where
   has-room r = rw (le-leb (length new) fileLimit (r .0), le-leb (length new) (length old) (r .1)) refl
 
   no-room : (Room new old → ⊥) → roomForFile new (length old) ≡ refuses 15 0
-  unfolding pick roomForFile roomFor
+  unfolding roomForFile roomFor
   no-room h = go (leb (length new) fileLimit) (leb (length new) (length old)) refl refl
     where
       go : (a b : Bool) → leb (length new) fileLimit ≡ a → leb (length new) (length old) ≡ b
-          → pick a (cond b (gives (length new)) (refuses 15 0)) (refuses 15 0) ≡ refuses 15 0
+          → cond a (cond b (gives (length new)) (refuses 15 0)) (refuses 15 0) ≡ refuses 15 0
       go true true p q = absurd (h (leb-true (length new) fileLimit p, leb-true (length new) (length old) q))
       go true false p q = refl
       go false b p q = refl
 
-  pub call-says : {said : Outcome} {out : List ℕ} → said ≡ roomForFile new (length old) → out ≡ written (roomForFile new (length old)) new old → CallSays new said old out
+  pub call-says : {said : Outcome} {out : List ℕ} → said ≡ roomForFile new (length old) → out
+      ≡ written (roomForFile new (length old)) new old → CallSays new said old out
   unfolding written
   call-says e q =
       record {
@@ -107,7 +112,8 @@ next-fitting {n} {frame} {between} c x =
     }
 
 -- the outcomes of an order, and what is then in its outputs
-module _ (file : List ℕ) (i : ℕ) (f : List ℤ) (p : Placed) (j : ℕ) (g : List ℤ) (q : Placed) (all oi oij : List ℕ) (c : Fitting file i p f) (d : Fitting file j q g)
+module _ (file : List ℕ) (i : ℕ) (f : List ℤ) (p : Placed) (j : ℕ) (g : List ℤ) (q : Placed) (all oi oij : List ℕ)
+    (c : Fitting file i p f) (d : Fitting file j q g)
     (then : length (one file p f) ≤ fileLimit → Next lineLimit j (one file p f) (q .section) (packByteOffset g) all) where
   abbrev order : OrderOutcome
   order = orderOf file i f j g (length oi) (length oij)
@@ -149,7 +155,8 @@ given-front {new} {old} s r r′ =
 -- ---- reading back
 
 -- the frame of a section in house form with a frame that fits
-frame-housed : (p : Placed) (frame : List ℤ) (i : Section) → p .section ≡ housedSection (packByteOffset frame) i → frameFits (i .description) frame ≡ true → frameOf p ≡ some frame
+frame-housed : (p : Placed) (frame : List ℤ) (i : Section) → p .section ≡ housedSection (packByteOffset frame) i
+    → frameFits (i .description) frame ≡ true → frameOf p ≡ some frame
 unfolding frameOf unpackPixels
 frame-housed p frame i s f =
     let c = counted (i .description) frame f in
@@ -158,9 +165,10 @@ frame-housed p frame i s f =
     ∙ unpack-pack (i .description .kind) frame (c .1)
 
 -- a section in house form with a frame that fits unpacks to it
-reads-back : (file : List ℕ) (n : ℕ) (frame : List ℤ) (i : Section) (tree : Tree) (p : Placed) → read lineLimit file ≡ good tree → numbered n (sections 0 tree) ≡ some p
+reads-back : (file : List ℕ) (n : ℕ) (frame : List ℤ) (i : Section) (tree : Tree) (p : Placed) → read lineLimit file
+    ≡ good tree → numbered n (sections 0 tree) ≡ some p
     → p .section ≡ housedSection (packByteOffset frame) i → frameFits (i .description) frame ≡ true → ReadsBack file n frame
-unfolding frameOutcome framePixels pick isSome pixelsOf
+unfolding frameOutcome framePixels isSome pixelsOf
 reads-back file n frame i tree p r e s f =
     record {
       pixels = rw at (ap pixelsOf unpacks);
@@ -168,8 +176,8 @@ reads-back file n frame i tree p r e s f =
       too-little = λ room h. answer room ∙ rw (lt-leb (length frame) room h) refl;
     }
   where
-    at : sectionOf (read lineLimit file) n ≡ value p
-    at = ap (λ (x : _). sectionOf x n) r ∙ ap orMissing e
+    at : sectionNumbered (read lineLimit file) n ≡ value p
+    at = ap (λ (x : _). sectionNumbered x n) r ∙ ap orMissing e
 
     count : length frame ≡ i .description .elements
     count = counted (i .description) frame f .0
@@ -180,7 +188,7 @@ reads-back file n frame i tree p r e s f =
     elements : p .section .description .elements ≡ length frame
     elements = ap (λ (z : Section). z .description .elements) s ∙ sym count
 
-    answer : (room : ℕ) → frameOutcome (read lineLimit file) n room ≡ pick (leb (length frame) room) (gives (length frame)) (refuses 15 0)
+    answer : (room : ℕ) → frameOutcome (read lineLimit file) n room ≡ cond (leb (length frame) room) (gives (length frame)) (refuses 15 0)
     answer room = section-answer p (λ x. frameFor x room) at ∙ rw (unpacks, elements) refl
 
 -- ---- outside the spans
@@ -236,8 +244,10 @@ module _ (file : List ℕ) (i : ℕ) (f : List ℤ) (j : ℕ) (g : List ℤ) (h 
         first-j = first-says file j g q i f p all oj oji fitting-j fitting-i (either .second-then);
         then-i = t;
         same-file = λ a b c d. (given-front s a b, given-front t c d);
-        reads-i = λ l. let r = either .read-both l in reads-back all i f (p .section) (r .tree) (r .first) (r .reads) (r .is-first) (r .first-section) (h .fits-i);
-        reads-j = λ l. let r = either .read-both l in reads-back all j g (q .section) (r .tree) (r .second) (r .reads) (r .is-second) (r .second-section) (h .fits-j);
+        reads-i = λ l. let r = either .read-both l in reads-back all i f (p .section) (r .tree) (r .first) (r .reads)
+            (r .is-first) (r .first-section) (h .fits-i);
+        reads-j = λ l. let r = either .read-both l in reads-back all j g (q .section) (r .tree) (r .second) (r .reads)
+            (r .is-second) (r .second-section) (h .fits-j);
         outside-kept = λ l.
             let r = either .read-both l in
             record {

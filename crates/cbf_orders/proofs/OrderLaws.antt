@@ -11,21 +11,21 @@ use lib.ListN.{length, take, drop, length-append, length-drop}
 use lib.Seq.{take-at}
 use lib.IntN.{ℤ}
 use Rattle.cbf_walk.specs.Reading.{Item, Reading, refused, good}
-use Rattle.cbf_pixels.specs.Octets.{pick}
 use Rattle.cbf_pixels.specs.Pixels.{packByteOffset}
-use Rattle.cbf_pixels.specs.Answers.{Outcome, gives, refuses, written, octetLimit}
+use Rattle.cbf_answers.specs.Answers.{Outcome, gives, refuses, written}
+use Rattle.cbf_answers.specs.Limits.{octetLimit, lineLimit, fileLimit}
 use Rattle.cbf_format.specs.declared.Encoding.{Encoding}
 use Rattle.cbf_format.specs.declared.Encoding.the-variants.{Binary, Base64}
-use Rattle.cbf_format.specs.Lines.{lineLimit}
-use Rattle.cbf_format.specs.Sections.{fileLimit, Section}
+use Rattle.cbf_format.specs.Sections.{Section}
 use Rattle.cbf_format.specs.Files.{State, read}
 use Rattle.cbf_format.specs.Listing.{Placed, sections, numbered}
 use Rattle.cbf_format.specs.House.{replacedFile}
-use Rattle.cbf_sections.specs.SectionCalls.{orMissing, sectionOf, sectionOutcome}
-use Rattle.cbf_write.specs.Rooms.{roomFor}
-use Rattle.cbf_replace.specs.ReplaceCalls as C
-use Rattle.cbf_orders.specs.Orders.{replaceCall, replacementOf, OrderOutcome, secondCall, orderOf, secondWritten, OrderSays, Premises, TwoOrders}
+use Rattle.cbf_sections.specs.SectionCalls.{orMissing, sectionNumbered, sectionOutcome}
+use Rattle.cbf_answers.specs.Rooms.{roomFor}
+use Rattle.cbf_orders.specs.Orders.{replaceCall, replacementOf, OrderOutcome, secondCall, orderOf}
+use Rattle.cbf_orders.specs.Orders.{secondWritten, OrderSays, Premises, TwoOrders}
 use Rattle.cbf_orders.proofs.Demand3.{demand-3}
+use Rattle.cbf_replace.specs.ReplaceCalls as C
 
 -- ---- a call that gave a file
 
@@ -37,8 +37,7 @@ module _ (new : List ℕ) (room : ℕ) where
   no-answer : (k p : ℕ) → Bounded new room (refuses k p)
   no-answer k p n e = let z : _≡_ {A = ℕ} 0 1 = cc in absurd (omega arith)
 
-  tested : (b : Bool) (x : Outcome) (k : ℕ) → Bounded new room x → Bounded new room (pick b x (refuses k 0))
-  unfolding pick
+  tested : (b : Bool) (x : Outcome) (k : ℕ) → Bounded new room x → Bounded new room (cond b x (refuses k 0))
   tested true x k h = h
   tested false x k h = no-answer k 0
 
@@ -63,12 +62,13 @@ bounded file n frame room = go (read lineLimit file)
     for p Base64 = no-answer (replacedFile file p (packByteOffset frame)) room 18 0
 
     go : (r : Reading (Item State Section)) → Bounded (C.replacedBy file r n frame) room (C.replaceOutcome file r n frame room)
-    go (refused k p) = no-answer (C.newFile file (sectionOf (refused k p) n) frame) room k p
+    go (refused k p) = no-answer (C.newFile file (sectionNumbered (refused k p) n) frame) room k p
     go (good its) = by (numbered n (sections 0 its))
       where
         by : (o : Option Placed)
             → Bounded (C.newFile file (orMissing o) frame) room
-            (sectionOutcome (orMissing o) (λ p. let d = p .section .description in C.replaceFor (d .encoding) d frame (replacedFile file p (packByteOffset frame)) room))
+            (sectionOutcome (orMissing o) (λ p. let d = p .section .description in C.replaceFor (d .encoding) d frame
+            (replacedFile file p (packByteOffset frame)) room))
         by none = no-answer (C.newFile file (orMissing none) frame) room 12 0
         by (some p) = for p (p .section .description .encoding)
 
@@ -97,10 +97,16 @@ module _ (file : List ℕ) (i : ℕ) (f : List ℤ) (j : ℕ) (g : List ℤ) (oi
         → secondCall x (replacementOf file i f) j g (length oij) ≡ orderOf file i f j g (length oi) (length oij) .second
     second-is e = λ z. secondCall (e z) (replacementOf file i f) j g (length oij)
 
-    pub order-refused : (k p : ℕ) → refuses k p ≡ replaceCall file i f (length oi) → OrderSays file i f j g (record { first = refuses k p; second = none }) oi oi′ oij oij
+    pub order-refused : (k p : ℕ) → refuses k p ≡ replaceCall file i f (length oi) → OrderSays file i f j g
+        (record { first = refuses k p; second = none }) oi oi′ oij oij
     order-refused k p e =
         let s = second-is e in
-        record { answers = λ z. record { first = e z; second = s z }; first-output = wrote; second-output = λ z. secondWritten (s z) (replacementOf (replacementOf file i f) j g) oij }
+        record {
+          answers = λ z. record { first = e z; second = s z };
+          first-output = wrote;
+          second-output =
+              λ z. secondWritten (s z) (replacementOf (replacementOf file i f) j g) oij;
+        }
 
     pub order-made : (n : ℕ) {x : Outcome} {oij′ : List ℕ} → gives n ≡ replaceCall file i f (length oi)
         → x ≡ replaceCall (take n oi′) j g (length oij)

@@ -1,5 +1,6 @@
--- Demand 3: for every accepted file, two different BINARY sections and two fitting frames, both orders of replacement give the same file, both frames read back,
--- every byte outside the two spans is the original, and a call is refused only for want of room. One statement about the four calls together.
+-- Demand 3: for every accepted file, two different BINARY sections and two fitting frames, both orders of replacement
+-- give the same file, both frames read back, every byte outside the two spans is the original, and a call is refused
+-- only for want of room. One statement about the four calls together.
 use mathlib.Core.Path.{_≡_}
 use mathlib.Core.Logic.{_≢_}
 use mathlib.Core.Option.{Option, none, some}
@@ -12,10 +13,9 @@ use lib.Seq.{slice}
 use lib.IntN.{ℤ}
 use Rattle.cbf_walk.specs.Reading.{good}
 use Rattle.cbf_pixels.specs.Pixels.{packByteOffset}
-use Rattle.cbf_pixels.specs.Answers.{Outcome, gives, refuses, outcome, written}
+use Rattle.cbf_answers.specs.Answers.{Outcome, gives, refuses, outcome, written}
 use Rattle.cbf_format.specs.declared.Encoding.the-variants.{Binary}
-use Rattle.cbf_format.specs.Lines.{lineLimit}
-use Rattle.cbf_format.specs.Sections.{fileLimit}
+use Rattle.cbf_answers.specs.Limits.{lineLimit, fileLimit}
 use Rattle.cbf_format.specs.Files.{Tree, read}
 use Rattle.cbf_format.specs.Listing.{Placed, sections, numbered}
 use Rattle.cbf_format.specs.House.{replacedFile, replacedBoth}
@@ -85,11 +85,13 @@ pub record Premises (file : List ℕ) (i : ℕ) (f : List ℤ) (j : ℕ) (g : Li
 
 -- ---- the conclusion
 
--- "A call has room when neither half of 15 holds": the result file is not too long, and the lent output not shorter than it
+-- "A call has room when neither half of 15 holds": the result file is not too long, and the lent output not shorter
+-- than it
 abbrev pub Room : List ℕ → List ℕ → Type 0
 Room new old = (length new ≤ fileLimit) × (length new ≤ length old)
 
--- a call that is to give the file `new` gives it where it has room, and the rest of the output stays; it is refused exactly where it has not, with 15 at 0, and all of the output stays
+-- a call that is to give the file `new` gives it where it has room, and the rest of the output stays; it is refused
+-- exactly where it has not, with 15 at 0, and all of the output stays
 pub record CallSays (new : List ℕ) (said : Outcome) (old out : List ℕ) : Type 0 where
   pub given : Room new old → (said ≡ gives (length new)) × (out ≡ new ++ drop (length new) old)
   pub refused : (Room new old → ⊥) → (said ≡ refuses 15 0) × (out ≡ old)
@@ -99,7 +101,8 @@ pub record SecondSays (new′ old′ new : List ℕ) (said : Option Outcome) (ol
   pub made : Room new′ old′ → (o : Outcome) × (said ≡ some o) × CallSays new o old out
   pub not-made : (Room new′ old′ → ⊥) → (said ≡ none) × (out ≡ old)
 
--- "Reads back: the section of the same number has octets that unpack to exactly the frame; unpacking it is refused for too little pixel room only."
+-- "Reads back: the section of the same number has octets that unpack to exactly the frame; unpacking it is refused
+-- for too little pixel room only."
 pub record ReadsBack (file : List ℕ) (n : ℕ) (frame : List ℤ) : Type 0 where
   pub pixels : framePixels (read lineLimit file) n ≡ frame
   pub unpacked : (room : ℕ) → length frame ≤ room → frameOutcome (read lineLimit file) n room ≡ gives (length frame)
@@ -109,8 +112,8 @@ pub record ReadsBack (file : List ℕ) (n : ℕ) (frame : List ℤ) : Type 0 whe
 abbrev pub spanEnd : Placed → ℕ
 spanEnd p = p .boundary + p .section .width
 
--- the spans of p and q stand in this order and apart, and so do those of p′ and q′ in the new file; every byte before, between
--- and behind them is the original
+-- the spans of p and q stand in this order and apart, and so do those of p′ and q′ in the new file; every byte
+-- before, between and behind them is the original
 pub record SpansKept (file : List ℕ) (p q : Placed) (new : List ℕ) (p′ q′ : Placed) : Type 0 where
   pub in-order : spanEnd p ≤ q .boundary
   pub new-order : spanEnd p′ ≤ q′ .boundary
@@ -133,16 +136,18 @@ pub record OutsideKept (file : List ℕ) (i : ℕ) (p : Placed) (j : ℕ) (q : P
   pub is-j : numbered j (sections 0 tree) ≡ some new-j
   pub kept : SpansKeptFrom (ltb i j) file p q new new-i new-j
 
--- the file with section i replaced; the one with both: "the original with each of the two spans exchanged for its section's house form with the new frame"
+-- the file with section i replaced; the one with both: "the original with each of the two spans exchanged for its
+-- section's house form with the new frame"
 abbrev pub one : List ℕ → Placed → List ℤ → List ℕ
 one file p f = replacedFile file p (packByteOffset f)
 
 abbrev pub both : List ℕ → ℕ → Placed → List ℤ → ℕ → Placed → List ℤ → List ℕ
 both file i p f j q g = replacedBoth file i p (packByteOffset f) j q (packByteOffset g)
 
--- of section i at p with the frame f and section j at q with the frame g: ij and ji are the outcomes of the two orders, and oi, oij, oj, oji the lent outputs of the four calls,
--- with a prime after the calls
-pub record TwoOrders (file : List ℕ) (i : ℕ) (f : List ℤ) (p : Placed) (j : ℕ) (g : List ℤ) (q : Placed) (ij ji : OrderOutcome) (oi oi′ oij oij′ oj oj′ oji oji′ : List ℕ) : Type 0 where
+-- of section i at p with the frame f and section j at q with the frame g: ij and ji are the outcomes of the two
+-- orders, and oi, oij, oj, oji the lent outputs of the four calls, with a prime after the calls
+pub record TwoOrders (file : List ℕ) (i : ℕ) (f : List ℤ) (p : Placed) (j : ℕ) (g : List ℤ) (q : Placed)
+    (ij ji : OrderOutcome) (oi oi′ oij oij′ oj oj′ oji oji′ : List ℕ) : Type 0 where
   pub first-i : CallSays (one file p f) (ij .first) oi oi′
   pub then-j : SecondSays (one file p f) oi (both file i p f j q g) (ij .second) oij oij′
   pub first-j : CallSays (one file q g) (ji .first) oj oj′

@@ -1,6 +1,7 @@
-// Demand 3: the frames of two sections replaced, in either order, as one statement about the four calls. What is demanded is in specs/.
-use cbf_format::LINE_LIMIT;
-use cbf_pixels::Answer;
+// Demand 3: the frames of two sections replaced, in either order, as one statement about the four calls. What is
+// demanded is in specs/.
+use cbf_answers::Answer;
+use cbf_answers::LINE_LIMIT;
 ghost use Rattle.cbf_orders.specs.Orders.{orderOutcome, OrderSays, Premises, TwoOrders};
 
 // The second call of an order: it is made only where the first gave a file.
@@ -30,7 +31,8 @@ pub fn one_order(
     oi: &mut [u8],
     oij: &mut [u8],
 ) -> Order
-    ensures order { λ r. ⌜ OrderSays (now (file .entry)) i (now (f .entry)) j (now (g .entry)) (orderOutcome r) (now (oi .entry)) (now (oi .exit)) (now (oij .entry)) (now (oij .exit)) ⌝ }
+    ensures order { λ r. ⌜ OrderSays (now (file .entry)) i (now (f .entry)) j (now (g .entry)) (orderOutcome r)
+        (now (oi .entry)) (now (oi .exit)) (now (oij .entry)) (now (oij .exit)) ⌝ }
 {
     let first = cbf::replace(file, LINE_LIMIT, i, f, oi);
     match first {
@@ -60,8 +62,14 @@ pub fn both_orders(
     oj: &mut [u8],
     oji: &mut [u8],
 ) -> Orders
-    ensures orders { λ r. ⌜ OrderSays (now (file .entry)) i (now (f .entry)) j (now (g .entry)) (orderOutcome (r .ij)) (now (oi .entry)) (now (oi .exit)) (now (oij .entry)) (now (oij .exit)) × OrderSays (now (file .entry)) j (now (g .entry)) i (now (f .entry)) (orderOutcome (r .ji)) (now (oj .entry)) (now (oj .exit)) (now (oji .entry)) (now (oji .exit)) ⌝ }
-    ensures demand_3 { λ r. ⌜ ((h : Premises (now (file .entry)) i (now (f .entry)) j (now (g .entry))) → TwoOrders (now (file .entry)) i (now (f .entry)) (h .at-i) j (now (g .entry)) (h .at-j) (orderOutcome (r .ij)) (orderOutcome (r .ji)) (now (oi .entry)) (now (oi .exit)) (now (oij .entry)) (now (oij .exit)) (now (oj .entry)) (now (oj .exit)) (now (oji .entry)) (now (oji .exit))) ⌝ }
+    ensures orders { λ r. ⌜ OrderSays (now (file .entry)) i (now (f .entry)) j (now (g .entry))
+        (orderOutcome (r .ij)) (now (oi .entry)) (now (oi .exit)) (now (oij .entry)) (now (oij .exit))
+        × OrderSays (now (file .entry)) j (now (g .entry)) i (now (f .entry)) (orderOutcome (r .ji))
+        (now (oj .entry)) (now (oj .exit)) (now (oji .entry)) (now (oji .exit)) ⌝ }
+    ensures demand_3 { λ r. ⌜ ((h : Premises (now (file .entry)) i (now (f .entry)) j (now (g .entry)))
+        → TwoOrders (now (file .entry)) i (now (f .entry)) (h .at-i) j (now (g .entry)) (h .at-j)
+        (orderOutcome (r .ij)) (orderOutcome (r .ji)) (now (oi .entry)) (now (oi .exit)) (now (oij .entry))
+        (now (oij .exit)) (now (oj .entry)) (now (oj .exit)) (now (oji .entry)) (now (oji .exit))) ⌝ }
 {
     let ij = one_order(file, i, f, j, g, oi, oij);
     let ji = one_order(file, j, g, i, f, oj, oji);

@@ -1,26 +1,32 @@
 -- How many octets packed pixels take: from 1 to 15 each. Assumes nothing.
-use Prim.Native.Nat.{ℕ, zero, suc, _+_, _*_, _<_, _≤_}
+use Prim.Native.Nat.{ℕ, _*_, _≤_, _+_}
 use native.Mathlib.Omega.{arith}
-use mathlib.Core.Path.{_≡_, refl}
 use mathlib.Core.List.{List, [], _∷_, _++_}
-use mathlib.Core.Bool.{Bool, true, false}
+use mathlib.Core.Bool.{Bool, true, false, cond}
 use lib.Dec.{ltb}
 use lib.ListN.{length, length-append}
 use lib.IntN.{ℤ, pos, natAbs, _-ℤ_}
-use Rattle.cbf_pixels.specs.Octets.{pick, half, octets, bits}
+use Rattle.cbf_pixels.specs.Octets.{half, octets, bits}
 use Rattle.cbf_pixels.specs.Pixels.{packBy, widths, packDifference, packFrom, packByteOffset}
-use Rattle.cbf_pixels.specs.Answers.{pixelLimit, octetLimit}
+use Rattle.cbf_answers.specs.Limits.{pixelLimit, octetLimit}
 use Rattle.cbf_pixels.proofs.Numbers.{length-octets}
-use Rattle.cbf_pixels.proofs.Rest.{total}
+
+-- ---- octets enough for all widths do not run out
+
+-- the octets of all widths together
+abbrev pub total : List ℕ → ℕ
+total [] = 0
+total (k ∷ ks) = k + total ks
 
 -- at least those of the first width, at most those of all
 by-bounds : (k : ℕ) (ks : List ℕ) (d : ℤ) → (k ≤ length (packBy (k ∷ ks) d)) × (length (packBy (k ∷ ks) d) ≤ total (k ∷ ks))
-unfolding packBy pick
+unfolding packBy
 by-bounds k [] d = omega (arith, length-octets k (bits k d))
 by-bounds k (j ∷ ks) d = go (ltb (natAbs d) (half k)) (by-bounds j ks d)
   where
     go : (b : Bool) → ((j ≤ length (packBy (j ∷ ks) d)) × (length (packBy (j ∷ ks) d) ≤ total (j ∷ ks)))
-        → (k ≤ length (pick b (octets k (bits k d)) (octets k (half k) ++ packBy (j ∷ ks) d))) × (length (pick b (octets k (bits k d)) (octets k (half k) ++ packBy (j ∷ ks) d)) ≤ total (k ∷ j ∷ ks))
+        → (k ≤ length (cond b (octets k (bits k d)) (octets k (half k) ++ packBy (j ∷ ks) d)))
+        × (length (cond b (octets k (bits k d)) (octets k (half k) ++ packBy (j ∷ ks) d)) ≤ total (k ∷ j ∷ ks))
     go true i = omega (arith, length-octets k (bits k d))
     go false i = omega (arith, length-octets k (half k), length-append (octets k (half k)) (packBy (j ∷ ks) d))
 

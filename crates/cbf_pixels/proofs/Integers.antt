@@ -4,7 +4,7 @@ use native.Mathlib.Omega.{arith}
 use mathlib.Core.Path.{_≡_, refl, sym, ap, _∙_}
 use mathlib.Core.Bool.{Bool, true, false, cond}
 use lib.Dec.{ltb, lit<}
-use lib.IntN.{ℤ, pos, negsuc, negℤ, subℕ, _+ℤ_, _-ℤ_, +ℤ-comm, +ℤ-negℤ-cancel, -ℤ-+ℤ-cancel}
+use lib.IntN.{ℤ, pos, negsuc, subℕ, _+ℤ_, _-ℤ_, +ℤ-comm, +ℤ-negℤ-cancel, -ℤ-+ℤ-cancel}
 use lib.Signed.{mag, leZ}
 use mir.Syntax.{w64}
 use mir.Val.{toZ, ofZ}
@@ -12,20 +12,17 @@ use mir.Facts.{toZ-ofZ}
 use borrow.Author.Tests.{leb-true, lt-ltb, le-ltb, ltb-true, ltb-false}
 use Rattle.cbf_pixels.specs.declared.ElementType.{ElementType}
 use Rattle.cbf_pixels.specs.declared.ElementType.the-variants.{U8, S8, U16, S16, U32, S32}
-use Rattle.cbf_pixels.specs.Octets.{pick}
 use Rattle.cbf_pixels.specs.Pixels.{least, greatest, within}
 
 -- ---- tests and bounds
 
-pub pick-left : (a b : Bool) → pick a b false ≡ true → a ≡ true
-unfolding pick
-pick-left true b e = refl
-pick-left false b e = e
+pub cond-left : (a b : Bool) → cond a b false ≡ true → a ≡ true
+cond-left true b e = refl
+cond-left false b e = e
 
-pub pick-right : (a b : Bool) → pick a b false ≡ true → b ≡ true
-unfolding pick
-pick-right true b e = e
-pick-right false b e = let z : _≡_ {A = ℕ} 0 1 = cc in let y : ⊥ = omega arith in absurd y
+pub cond-right : (a b : Bool) → cond a b false ≡ true → b ≡ true
+cond-right true b e = e
+cond-right false b e = let z : _≡_ {A = ℕ} 0 1 = cc in let y : ⊥ = omega arith in absurd y
 
 pub never : {X : Type 0} → false ≡ true → X
 never e = let z : _≡_ {A = ℕ} 0 1 = cc in let y : ⊥ = omega arith in absurd y
@@ -53,7 +50,8 @@ greatest-small t = omega (arith, bounds-small t .1)
 pub within-small : (t : ElementType) (z : ℤ) → within (least t) (greatest t) z ≡ true → mag z < 2 ^ 32
 unfolding within
 within-small t z w =
-    between (2 ^ 32) (least t) (greatest t) z (bounds-small t .0) (bounds-small t .1) (pick-left (leZ (least t) z) (leZ z (greatest t)) w) (pick-right (leZ (least t) z) (leZ z (greatest t)) w)
+    between (2 ^ 32) (least t) (greatest t) z (bounds-small t .0) (bounds-small t .1) (cond-left (leZ (least t) z)
+    (leZ z (greatest t)) w) (cond-right (leZ (least t) z) (leZ z (greatest t)) w)
 
 pub mag-subℕ : (a b H : ℕ) → a < H → b ≤ H → mag (subℕ a b) < H
 mag-subℕ a b H h k = go (ltb a b)

@@ -2,15 +2,15 @@
 use Prim.Native.Nat.{ℕ, zero, suc, _+_, _*_, _-_, _/_, _%_, _^_, _<_, _≤_}
 use native.Mathlib.Omega.{arith}
 use mathlib.Core.Path.{_≡_, refl, sym, ap, _∙_, subst}
-use mathlib.Core.List.{List, [], _∷_, _++_}
-use mathlib.Core.Bool.{Bool, true, false}
+use mathlib.Core.List.{List}
+use mathlib.Core.Bool.{Bool, true, false, cond}
 use lib.Dec.{ltb}
 use lib.ListN.{length, take, drop}
 use lib.Seq.{length-take-le}
 use lib.IntN.{ℤ, pos, negsuc, natAbs}
 use lib.Signed.{mag}
 use borrow.Author.Tests.{lt-ltb, le-ltb, ltb-true, ltb-false}
-use Rattle.cbf_pixels.specs.Octets.{pick, number, octets, half, signed, bits, Octets, no-octet, octet}
+use Rattle.cbf_pixels.specs.Octets.{number, octets, half, signed, bits, Octets, no-octet, octet}
 
 pub number-lt : {os : List ℕ} → Octets os → number os < 256 ^ length os
 unfolding number
@@ -73,7 +73,7 @@ pub bits-signed : (k n : ℕ) → n < 256 ^ k → bits k (signed k n) ≡ n
 unfolding signed bits
 bits-signed k n h = go (ltb n (half k))
   where
-    go : (b : Bool) → bits k (pick b (pos n) (negsuc (256 ^ k - suc n))) ≡ n
+    go : (b : Bool) → bits k (cond b (pos n) (negsuc (256 ^ k - suc n))) ≡ n
     go true = refl
     go false = omega arith
 
@@ -101,7 +101,7 @@ unfolding signed half
 signed-lt zero n p h e = omega arith
 signed-lt (suc k) n p h e = go (ltb n (half (suc k))) refl
   where
-    go : (b : Bool) → ltb n (half (suc k)) ≡ b → natAbs (pick b (pos n) (negsuc (256 ^ suc k - suc n))) < half (suc k)
+    go : (b : Bool) → ltb n (half (suc k)) ≡ b → natAbs (cond b (pos n) (negsuc (256 ^ suc k - suc n))) < half (suc k)
     go true q = ltb-true n (half (suc k)) q
     go false q = let u = ltb-false n (half (suc k)) q in omega arith
 

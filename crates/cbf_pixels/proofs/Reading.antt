@@ -1,18 +1,19 @@
 -- Reading and packing one difference, for any list of widths. Assumes nothing.
-use Prim.Native.Nat.{ℕ, zero, suc, _+_, _*_, _-_, _/_, _%_, _^_, _<_, _≤_}
+use Prim.Native.Nat.{ℕ, zero, suc, _^_, _<_}
 use native.Mathlib.Omega.{arith}
-use mathlib.Core.Path.{_≡_, refl, sym, ap, ap₂, _∙_, subst}
+use mathlib.Core.Path.{_≡_, refl, sym, ap, _∙_}
 use mathlib.Core.List.{List, [], _∷_, _++_, append-assoc}
-use mathlib.Core.Bool.{Bool, true, false}
-use lib.Dec.{ltb, leb, eqb}
-use lib.ListN.{length, take, drop, length-append, length-take, length-drop, take-append-drop}
-use lib.Seq.{take-at, drop-at, length-take-le}
-use lib.IntN.{ℤ, pos, negsuc, natAbs}
+use mathlib.Core.Bool.{Bool, true, false, cond}
+use lib.Dec.{ltb}
+use lib.ListN.{length, length-append}
+use lib.Seq.{take-at, drop-at}
+use lib.IntN.{ℤ, natAbs}
 use lib.Signed.{mag}
-use borrow.Author.Tests.{lt-ltb, le-ltb, ltb-true, ltb-false, le-leb, lt-leb, leb-true, eq-eqb, ne-eqb, eqb-true, eqb-false}
-use Rattle.cbf_pixels.specs.Octets.{pick, number, octets, half, signed, bits, Octets, no-octet, octet}
-use Rattle.cbf_pixels.specs.Pixels.{Read, run-out, got, readBy, packBy}
-use Rattle.cbf_pixels.proofs.Numbers.{number-lt, octets-number, number-octets, length-octets, octets-take, octets-drop, bits-signed, signed-bits, bits-lt, bits-ne, signed-lt, mag-le, power-pos}
+use borrow.Author.Tests.{ltb-true, le-leb, lt-leb, eq-eqb, ne-eqb}
+use Rattle.cbf_pixels.specs.Octets.{number, octets, half, signed, bits}
+use Rattle.cbf_pixels.specs.Pixels.{run-out, got, readBy, packBy}
+use Rattle.cbf_pixels.proofs.Numbers.{number-octets, length-octets, signed-bits, bits-lt, bits-ne, mag-le}
+use Rattle.cbf_pixels.proofs.Numbers.{power-pos}
 
 -- ---- the three ways that reading goes at a width k
 
@@ -57,7 +58,8 @@ read-pack (k ∷ []) d os h =
     ∙ ap (λ (z : ℤ). got z os) (ap (signed k) (number-octets k (bits k d) (bits-lt k d h)) ∙ signed-bits k d h)
 read-pack (k ∷ j ∷ ks) d os h = go (ltb (natAbs d) (half k)) refl (read-pack (j ∷ ks) d os h)
   where
-    go : (b : Bool) → ltb (natAbs d) (half k) ≡ b → readBy (j ∷ ks) (packBy (j ∷ ks) d ++ os) ≡ got d os → readBy (k ∷ j ∷ ks) (pick b (octets k (bits k d)) (octets k (half k) ++ packBy (j ∷ ks) d) ++ os) ≡ got d os
+    go : (b : Bool) → ltb (natAbs d) (half k) ≡ b → readBy (j ∷ ks) (packBy (j ∷ ks) d ++ os) ≡ got d os
+        → readBy (k ∷ j ∷ ks) (cond b (octets k (bits k d)) (octets k (half k) ++ packBy (j ∷ ks) d) ++ os) ≡ got d os
     go true q ih =
         let s = ltb-true (natAbs d) (half k) q in
         let m : mag d < half k = omega (arith, mag-le d) in

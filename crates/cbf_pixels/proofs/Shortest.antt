@@ -1,17 +1,19 @@
--- Packing writes the fewest octets that are read as the same difference, and no other octets are as few. Assumes nothing.
-use Prim.Native.Nat.{ℕ, zero, suc, _+_, _*_, _-_, _/_, _%_, _^_, _<_, _≤_}
+-- Packing writes the fewest octets that are read as the same difference, and no other octets are as few. Assumes
+-- nothing.
+use Prim.Native.Nat.{ℕ, _+_, _<_, _≤_}
 use native.Mathlib.Omega.{arith}
 use mathlib.Core.Path.{_≡_, refl, sym, ap, ap₂, _∙_, subst}
 use mathlib.Core.List.{List, [], _∷_, _++_, append-assoc}
-use mathlib.Core.Bool.{Bool, true, false}
+use mathlib.Core.Bool.{Bool, true, false, cond}
 use lib.Dec.{ltb, leb, eqb}
-use lib.ListN.{length, take, drop, length-append, length-take, length-drop, take-append-drop}
-use lib.Seq.{take-at, drop-at, length-take-le}
-use lib.IntN.{ℤ, pos, negsuc, natAbs}
-use borrow.Author.Tests.{lt-ltb, le-ltb, ltb-true, ltb-false, le-leb, lt-leb, leb-true, eq-eqb, ne-eqb, eqb-true, eqb-false}
-use Rattle.cbf_pixels.specs.Octets.{pick, number, octets, half, signed, bits, Octets, no-octet, octet}
-use Rattle.cbf_pixels.specs.Pixels.{Read, run-out, got, readBy, packBy}
-use Rattle.cbf_pixels.proofs.Numbers.{number-lt, octets-number, number-octets, length-octets, octets-take, octets-drop, bits-signed, signed-bits, bits-lt, bits-ne, signed-lt, mag-le, taken-lt, octets-taken}
+use lib.ListN.{length, take, drop, length-append, length-drop, take-append-drop}
+use lib.Seq.{length-take-le}
+use lib.IntN.{ℤ, natAbs}
+use borrow.Author.Tests.{lt-ltb, leb-true, eqb-true, eqb-false}
+use Rattle.cbf_pixels.specs.Octets.{number, octets, half, signed, bits, Octets}
+use Rattle.cbf_pixels.specs.Pixels.{run-out, got, readBy, packBy}
+use Rattle.cbf_pixels.proofs.Numbers.{length-octets, octets-drop, bits-signed, signed-lt, taken-lt}
+use Rattle.cbf_pixels.proofs.Numbers.{octets-taken}
 
 -- xs, followed by rest, is no longer than os, and as long only where it is os
 pub record Least (xs rest os : List ℕ) : Type 0 where
@@ -41,7 +43,7 @@ some-octet [] d w e = refl
 some-octet (k ∷ []) d w e = let z : ⊥ = omega (arith, length-octets k (bits k d)) in absurd z
 some-octet (k ∷ j ∷ ks) d w e = go (ltb (natAbs d) (half k)) e
   where
-    go : (b : Bool) → length (pick b (octets k (bits k d)) (octets k (half k) ++ packBy (j ∷ ks) d)) ≡ 0 → k ∷ j ∷ ks ≡ []
+    go : (b : Bool) → length (cond b (octets k (bits k d)) (octets k (half k) ++ packBy (j ∷ ks) d)) ≡ 0 → k ∷ j ∷ ks ≡ []
     go true q = let z : ⊥ = omega (arith, length-octets k (bits k d)) in absurd z
     go false q =
         let z : ⊥ = omega (arith, length-octets k (half k), length-append (octets k (half k)) (packBy (j ∷ ks) d)) in
@@ -59,7 +61,7 @@ passed k j ks d rest {os} w h r n ih = go (ltb (natAbs d) (half k))
     more : length (packBy (j ∷ ks) d) ≡ 0 → ⊥
     more e = let q = ap length (some-octet (j ∷ ks) d (w .1) e) in omega arith
 
-    go : (b : Bool) → Least (pick b (octets k (bits k d)) (octets k (half k) ++ packBy (j ∷ ks) d)) rest os
+    go : (b : Bool) → Least (cond b (octets k (bits k d)) (octets k (half k) ++ packBy (j ∷ ks) d)) rest os
     go true =
         let l = length-octets k (bits k d) in
         let dl = length-drop k os in
@@ -81,11 +83,11 @@ passed k j ks d rest {os} w h r n ih = go (ltb (natAbs d) (half k))
         }
 
 pub read-least : (ks : List ℕ) (d : ℤ) (rest os : List ℕ) → Wide ks → Octets os → readBy ks os ≡ got d rest → Least (packBy ks d) rest os
-unfolding readBy packBy pick
+unfolding readBy packBy
 read-least [] d rest os w r e = let z : _≡_ {A = ℕ} 0 1 = cc in let y : ⊥ = omega arith in absurd y
 read-least (k ∷ []) d rest os w r e = go (leb k (length os)) refl e
   where
-    go : (b : Bool) → leb k (length os) ≡ b → pick b (got (signed k (number (take k os))) (drop k os)) run-out ≡ got d rest → Least (packBy (k ∷ []) d) rest os
+    go : (b : Bool) → leb k (length os) ≡ b → cond b (got (signed k (number (take k os))) (drop k os)) run-out ≡ got d rest → Least (packBy (k ∷ []) d) rest os
     go true q e′ =
         let h = leb-true k (length os) q in
         let dd : signed k (number (take k os)) ≡ d = cc in
@@ -93,17 +95,19 @@ read-least (k ∷ []) d rest os w r e = go (leb k (length os)) refl e
         subst (λ (l : List ℕ). Least (octets k (bits k d)) l os) dr
         (whole k (octets k (bits k d)) h r (ap (λ (z : ℤ). octets k (bits k z)) (sym dd) ∙ written k h r))
     go false q e′ = let z : _≡_ {A = ℕ} 0 1 = cc in let y : ⊥ = omega arith in absurd y
-read-least (k ∷ j ∷ ks) d rest os w r e = go (leb k (length os)) refl (eqb (number (take k os)) (half k)) refl e (λ h. read-least (j ∷ ks) d rest (drop k os) (w .1) (octets-drop k r) h)
+read-least (k ∷ j ∷ ks) d rest os w r e = go (leb k (length os)) refl (eqb (number (take k os)) (half k)) refl e
+    (λ h. read-least (j ∷ ks) d rest (drop k os) (w .1) (octets-drop k r) h)
   where
     go : (b : Bool) → leb k (length os) ≡ b → (b′ : Bool) → eqb (number (take k os)) (half k) ≡ b′
-        → pick b (pick b′ (readBy (j ∷ ks) (drop k os)) (got (signed k (number (take k os))) (drop k os))) run-out ≡ got d rest
+        → cond b (cond b′ (readBy (j ∷ ks) (drop k os)) (got (signed k (number (take k os))) (drop k os))) run-out ≡ got d rest
         → (readBy (j ∷ ks) (drop k os) ≡ got d rest → Least (packBy (j ∷ ks) d) rest (drop k os)) → Least (packBy (k ∷ j ∷ ks) d) rest os
     go true q true q′ e′ ih = passed k j ks d rest w (leb-true k (length os) q) r (eqb-true (number (take k os)) (half k) q′) (ih e′)
     go true q false q′ e′ ih =
         let h = leb-true k (length os) q in
         let dd : signed k (number (take k os)) ≡ d = cc in
         let dr : drop k os ≡ rest = cc in
-        let s : natAbs (signed k (number (take k os))) < half k = signed-lt k (number (take k os)) (w .0) (taken-lt k h r) (eqb-false (number (take k os)) (half k) q′) in
+        let s : natAbs (signed k (number (take k os))) < half k = signed-lt k (number (take k os)) (w .0)
+        (taken-lt k h r) (eqb-false (number (take k os)) (half k) q′) in
         let s′ : natAbs d < half k = subst (λ (z : ℤ). natAbs z < half k) dd s in
         subst (λ (l : List ℕ). Least (packBy (k ∷ j ∷ ks) d) l os) dr
         (whole k (packBy (k ∷ j ∷ ks) d) h r (rw (lt-ltb (natAbs d) (half k) s′) (ap (λ (z : ℤ). octets k (bits k z)) (sym dd) ∙ written k h r)))

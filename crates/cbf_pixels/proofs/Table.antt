@@ -1,7 +1,7 @@
 -- P1 to P12: single pixels, each packed, and unpacked again.
 use Prim.Native.Nat.{ℕ}
 use mathlib.Core.Path.{_≡_, refl}
-use mathlib.Core.Option.{Option, some}
+use mathlib.Core.Option.{some}
 use mathlib.Core.List.{List, [], _∷_}
 use lib.IntN.{ℤ, pos, negsuc}
 use Rattle.cbf_pixels.specs.declared.ElementType.{ElementType}
@@ -30,14 +30,47 @@ table =
     ∷ s32 (negsuc 32767) (0x80 ∷ 0x00 ∷ 0x80 ∷ 0x00 ∷ 0x80 ∷ 0xff ∷ 0xff ∷ [])
     ∷ s32 (pos 2147483647) (0x80 ∷ 0x00 ∷ 0x80 ∷ 0xff ∷ 0xff ∷ 0xff ∷ 0x7f ∷ [])
     ∷ s32 (negsuc 2147483647) (0x80 ∷ 0x00 ∷ 0x80 ∷ 0x00 ∷ 0x00 ∷ 0x00 ∷ 0x80 ∷ 0x00 ∷ 0x00 ∷ 0x00 ∷ 0x80 ∷ 0xff ∷ 0xff ∷ 0xff ∷ 0xff ∷ [])
-    ∷ record { type = U32; pixels = pos 4294967295 ∷ []; octets = 0x80 ∷ 0x00 ∷ 0x80 ∷ 0x00 ∷ 0x00 ∷ 0x00 ∷ 0x80 ∷ 0xff ∷ 0xff ∷ 0xff ∷ 0xff ∷ 0x00 ∷ 0x00 ∷ 0x00 ∷ 0x00 ∷ [] }
+    ∷ record {
+      type = U32;
+      pixels = pos 4294967295 ∷ [];
+      octets = 0x80 ∷ 0x00 ∷ 0x80 ∷ 0x00 ∷ 0x00 ∷ 0x00 ∷ 0x80 ∷
+          0xff ∷ 0xff ∷ 0xff ∷ 0xff ∷ 0x00 ∷ 0x00 ∷ 0x00 ∷ 0x00 ∷ [];
+    }
     ∷ []
 
 abbrev pub Holds : List Case → Type 0
 Holds [] = Unit {0}
-Holds (c ∷ cs) = (packByteOffset (c .pixels) ≡ c .octets) × (unpackByteOffset (c .type) (lib.ListN.length (c .pixels)) (c .octets) ≡ some (c .pixels)) × Holds cs
+Holds (c ∷ cs) = (packByteOffset (c .pixels) ≡ c .octets) × (unpackByteOffset (c .type) (lib.ListN.length (c .pixels))
+    (c .octets) ≡ some (c .pixels)) × Holds cs
 
 pub table-holds : Holds table
 unfolding packByteOffset unpackByteOffset
-table-holds =
-    (refl, refl, (refl, refl, (refl, refl, (refl, refl, (refl, refl, (refl, refl, (refl, refl, (refl, refl, (refl, refl, (refl, refl, (refl, refl, (refl, refl, (refl, refl, tt)))))))))))))
+table-holds = (
+  refl,
+  refl,
+  (
+    refl,
+    refl,
+    (
+      refl,
+      refl,
+      (
+        refl,
+        refl,
+        (
+          refl,
+          refl,
+          (
+            refl,
+            refl,
+            (
+              refl,
+              refl,
+              (refl, refl, (refl, refl, (refl, refl, (refl, refl, (refl, refl, (refl, refl, tt)))))),
+            ),
+          ),
+        ),
+      ),
+    ),
+  ),
+)

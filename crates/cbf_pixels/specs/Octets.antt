@@ -1,14 +1,9 @@
 -- Numbers as octets, lowest first, at any count k of octets; signed numbers in two's complement.
 use Prim.Native.Nat.{ℕ, zero, suc, _+_, _*_, _-_, _/_, _%_, _^_, _<_}
 use mathlib.Core.List.{List, [], _∷_}
-use mathlib.Core.Bool.{Bool, true, false}
+use mathlib.Core.Bool.{Bool, true, false, cond}
 use lib.Dec.{ltb}
 use lib.IntN.{ℤ, pos, negsuc}
-
--- the first where the test holds, else the second
-unfoldable pub pick {ℓ} : {X : Type ℓ} → Bool → X → X → X
-pick true x y = x
-pick false x y = y
 
 -- the number that octets stand for
 unfoldable pub number : List ℕ → ℕ
@@ -26,8 +21,8 @@ half k = 256 ^ k / 2
 
 -- the signed number that k octets with the number n stand for, in two's complement
 unfoldable pub signed : ℕ → ℕ → ℤ
-unfolding pick half
-signed k n = pick (ltb n (half k)) (pos n) (negsuc (256 ^ k - suc n))
+unfolding half
+signed k n = cond (ltb n (half k)) (pos n) (negsuc (256 ^ k - suc n))
 
 -- the number of the k octets that a signed number is written in
 unfoldable pub bits : ℕ → ℤ → ℕ

@@ -2,13 +2,13 @@
 use Prim.Native.Nat.{ℕ, zero, suc, _≤_}
 use mathlib.Core.Path.{_≡_}
 use mathlib.Core.List.{List, [], _∷_, _++_}
-use mathlib.Core.Bool.{Bool, true, false}
+use mathlib.Core.Bool.{Bool, true, false, cond}
 use mathlib.Core.Option.{Option, none, some, Option·map}
 use lib.Dec.{ltb, leb, eqb}
 use lib.ListN.{length, take, drop}
 use lib.IntN.{ℤ, pos, negsuc, natAbs, _+ℤ_, _-ℤ_}
 use lib.Signed.{leZ}
-use Rattle.cbf_pixels.specs.Octets.{pick, number, octets, half, signed, bits, Octets}
+use Rattle.cbf_pixels.specs.Octets.{number, octets, half, signed, bits, Octets}
 use Rattle.cbf_pixels.specs.declared.ElementType.{ElementType}
 use Rattle.cbf_pixels.specs.declared.ElementType.the-variants.{U8, S8, U16, S16, U32, S32}
 
@@ -31,17 +31,16 @@ greatest U32 = pos 4294967295
 greatest S32 = pos 2147483647
 
 unfoldable pub within : ℤ → ℤ → ℤ → Bool
-unfolding pick
-within lo hi z = pick (leZ lo z) (leZ z hi) false
+within lo hi z = cond (leZ lo z) (leZ z hi) false
 
 unfoldable pub allWithin : ℤ → ℤ → List ℤ → Bool
-unfolding pick within
+unfolding within
 allWithin lo hi [] = true
-allWithin lo hi (z ∷ zs) = pick (within lo hi z) (allWithin lo hi zs) false
+allWithin lo hi (z ∷ zs) = cond (within lo hi z) (allWithin lo hi zs) false
 
 -- ---- One difference. "One octet for -127 to 127. Else 80 and two octets .. Else 80 00 80 and four octets .. Else
--- 80 00 80 00 00 00 80 and eight octets": the widths that may hold it, in octets, narrowest first. The least number of a
--- width but the last stands for no difference: it says that the next width holds it.
+-- 80 00 80 00 00 00 80 and eight octets": the widths that may hold it, in octets, narrowest first. The least number
+-- of a width but the last stands for no difference: it says that the next width holds it.
 
 unfoldable pub widths : List ℕ
 widths = 1 ∷ 2 ∷ 4 ∷ 8 ∷ []
@@ -53,20 +52,20 @@ pub data Read : Type 0 where
 
 -- "unpacking takes any": the widths are tried in turn
 unfoldable pub readBy : List ℕ → List ℕ → Read
-unfolding pick number half signed
+unfolding number half signed
 readBy [] os = run-out
-readBy (k ∷ []) os = pick (leb k (length os)) (got (signed k (number (take k os))) (drop k os)) run-out
+readBy (k ∷ []) os = cond (leb k (length os)) (got (signed k (number (take k os))) (drop k os)) run-out
 readBy (k ∷ j ∷ ks) os =
-    pick (leb k (length os))
-    (pick (eqb (number (take k os)) (half k)) (readBy (j ∷ ks) (drop k os)) (got (signed k (number (take k os))) (drop k os)))
+    cond (leb k (length os))
+    (cond (eqb (number (take k os)) (half k)) (readBy (j ∷ ks) (drop k os)) (got (signed k (number (take k os))) (drop k os)))
     run-out
 
 -- "packing uses the shortest"
 unfoldable pub packBy : List ℕ → ℤ → List ℕ
-unfolding pick half bits octets
+unfolding half bits octets
 packBy [] d = []
 packBy (k ∷ []) d = octets k (bits k d)
-packBy (k ∷ j ∷ ks) d = pick (ltb (natAbs d) (half k)) (octets k (bits k d)) (octets k (half k) ++ packBy (j ∷ ks) d)
+packBy (k ∷ j ∷ ks) d = cond (ltb (natAbs d) (half k)) (octets k (bits k d)) (octets k (half k) ++ packBy (j ∷ ks) d)
 
 unfoldable pub packDifference : ℤ → List ℕ
 unfolding widths packBy
@@ -81,9 +80,9 @@ pub data Next : Type 0 where
 
 -- the pixel after z, from the difference that was read
 unfoldable pub addDifference : ℤ → ℤ → ℤ → Read → Next
-unfolding pick within
+unfolding within
 addDifference lo hi z run-out = fails
-addDifference lo hi z (got d os) = pick (within lo hi (z +ℤ d)) (pixel (z +ℤ d) os) fails
+addDifference lo hi z (got d os) = cond (within lo hi (z +ℤ d)) (pixel (z +ℤ d) os) fails
 
 unfoldable pub nextPixel : ℤ → ℤ → ℤ → List ℕ → Next
 unfolding addDifference readBy widths

@@ -1,14 +1,12 @@
 -- Uncompressed pixels. Document 01, "Pixels": "Uncompressed: little-endian, two's complement."
 use Prim.Native.Nat.{ℕ, zero, suc}
 use mathlib.Core.List.{List, [], _∷_, _++_}
-use mathlib.Core.Bool.{Bool, true, false}
+use mathlib.Core.Bool.{Bool, true, false, cond}
 use mathlib.Core.Option.{Option, none, some, Option·map}
 use lib.Dec.{leb}
 use lib.ListN.{length, take, drop}
 use lib.IntN.{ℤ, pos}
-use lib.Signed.{leZ}
-use Rattle.cbf_pixels.specs.Octets.{pick, number, octets, signed, bits}
-use Rattle.cbf_pixels.specs.Pixels.{least}
+use Rattle.cbf_pixels.specs.Octets.{number, octets, signed, bits}
 use Rattle.cbf_pixels.specs.declared.ElementType.{ElementType}
 use Rattle.cbf_pixels.specs.declared.ElementType.the-variants.{U8, S8, U16, S16, U32, S32}
 
@@ -31,16 +29,16 @@ isSigned S32 = true
 
 -- the pixel that k octets with the number n stand for, in a signed type or not
 unfoldable pub pixelOf : Bool → ℕ → ℕ → ℤ
-unfolding pick signed
-pixelOf s k n = pick s (signed k n) (pos n)
+unfolding signed
+pixelOf s k n = cond s (signed k n) (pos n)
 
 -- n pixels of k octets each: fails if octets run out or remain
 unfoldable pub readPixels : Bool → ℕ → ℕ → List ℕ → Option (List ℤ)
-unfolding pick pixelOf number
+unfolding pixelOf number
 readPixels s k zero [] = some []
 readPixels s k zero (o ∷ os) = none
 readPixels s k (suc n) os =
-    pick (leb k (length os)) (Option·map (λ (ps : List ℤ). pixelOf s k (number (take k os)) ∷ ps) (readPixels s k n (drop k os))) none
+    cond (leb k (length os)) (Option·map (λ (ps : List ℤ). pixelOf s k (number (take k os)) ∷ ps) (readPixels s k n (drop k os))) none
 
 unfoldable pub writePixels : ℕ → List ℤ → List ℕ
 unfolding octets bits

@@ -1,42 +1,45 @@
--- What follows the empty line after a section's headers, at a place of the file, in either transfer encoding. Assumes nothing.
+-- What follows the empty line after a section's headers, at a place of the file, in either transfer encoding. Assumes
+-- nothing.
 use mathlib.Core.Path.{_≡_, refl, sym, ap, _∙_, subst}
 use mathlib.Core.Bool.{Bool, true, false}
 use mathlib.Core.List.{List, []}
-use Prim.Native.Nat.{ℕ, zero, suc, _+_, _-_, _≤_, _<_}
+use Prim.Native.Nat.{ℕ, _+_, _-_, _≤_, _<_}
 use native.Mathlib.Omega.{arith}
 use borrow.Author.Tests.{le-leb, lt-leb}
 use lib.ListN.{length, take, drop, length-drop}
 use lib.Seq.{slice, drop-drop}
-use Rattle.cbf_walk.specs.Parsers.{Res, bad, cut, ok, Parser, ret, plus, counted, screen, blame, onward, then, bind}
-use Rattle.cbf_walk.proofs.ParserLaws.{Unbound, cut≢ok, ok-val, unbind, unblame}
+use Rattle.cbf_walk.specs.Parsers.{Res, bad, cut, ok, Parser, ret, plus, screen, blame, then, bind}
+use Rattle.cbf_walk.proofs.ParserLaws.{Unbound, ok-val, unbind, unblame}
 use Rattle.cbf_format.specs.Text.{same}
-use Rattle.cbf_format.specs.Lines.{line, octets, word, semicolonLine}
+use Rattle.cbf_format.specs.Lines.{exactly, literal, semicolonLine}
 use Rattle.cbf_format.specs.declared.Encoding.{Encoding}
 use Rattle.cbf_format.specs.declared.Encoding.the-variants.{Binary, Base64}
-use Rattle.cbf_format.specs.Base64.{Letters, addSymbols, refusedText, moreText, letters}
-use Rattle.cbf_format.specs.Sections as S
-use Rattle.cbf_format.specs.Sections.{closing, marker, fileLimit, closed, closedAfter, binaryData, goodText, textClosed, base64Data, dataFor}
+use Rattle.cbf_format.specs.Base64.{Letters, letters}
+use Rattle.cbf_format.specs.Sections.{closing, marker, closed, closedAfter, binaryData, goodText, textClosed}
+use Rattle.cbf_format.specs.Sections.{base64Data, dataFor}
+use Rattle.cbf_answers.specs.Limits.{fileLimit}
 use Rattle.cbf_format.proofs.LineTame.{unoctets}
 use Rattle.cbf_format.proofs.Base64Laws.{Plains}
 use Rattle.cbf_format.proofs.SectionTame.{binaryOf, base64Of, letters-tame, dataFor-tame}
 use Rattle.cbf_format.proofs.SectionLaws.{word-count, letters-end, data-says}
-use Rattle.cbf_reader.specs.declared.closing.Next.{Next}
-use Rattle.cbf_reader.specs.declared.closing.Next.the-variants as N
-use Rattle.cbf_reader.specs.declared.closing.Ending.{Ending}
-use Rattle.cbf_reader.specs.declared.closing.Ending.the-variants.{Wrong, Span}
+use Rattle.cbf_lines.specs.declared.closing.Next.{Next}
+use Rattle.cbf_lines.specs.declared.closing.Ending.{Ending}
+use Rattle.cbf_lines.specs.declared.closing.Ending.the-variants.{Wrong, Span}
 use Rattle.cbf_reader.specs.declared.data.Data.{Data}
 use Rattle.cbf_reader.specs.declared.data.Data.the-variants.{Refused, CutOff, At}
-use Rattle.cbf_reader.specs.Places.{nextAt, closedAt}
-use Rattle.cbf_reader.specs.DataPlaces.{dataAt, isText}
-use Rattle.cbf_pixels.specs.declared.Refusal.{Refusal}
-use Rattle.cbf_reader.specs.declared.base64.Groups.{Groups}
-use Rattle.cbf_reader.specs.declared.base64_text.Base64Text.{Base64Text}
-use Rattle.cbf_reader.specs.declared.base64_text.Base64Text.the-variants as T
-use Rattle.cbf_reader.specs.Groups.{groupsFrom, groupsOf, groupsHold}
-use Rattle.cbf_reader.specs.Base64Places.{lettersAt, FewOfText}
-use Rattle.cbf_reader.proofs.GroupLaws.{held-decodes, not-held-sized, groups-of}
-use Rattle.cbf_reader.proofs.Base64Laws.{letters-plain}
-use Rattle.cbf_reader.proofs.ClosingLaws.{no-place, same-place, word-short, word-at}
+use Rattle.cbf_lines.specs.Closing.{nextAt, closedAt}
+use Rattle.cbf_reader.specs.Data.{dataAt, isText}
+use Rattle.cbf_answers.specs.declared.Refusal.{Refusal}
+use Rattle.cbf_base64.specs.declared.base64.Groups.{Groups}
+use Rattle.cbf_base64.specs.declared.base64_text.Base64Text.{Base64Text}
+use Rattle.cbf_base64.specs.Base64.{groupsFrom, groupsOf, groupsHold}
+use Rattle.cbf_base64.specs.Base64Text.{lettersAt, FewOfText}
+use Rattle.cbf_base64.proofs.Base64Laws.{held-decodes, not-held-sized, groups-of}
+use Rattle.cbf_base64.proofs.Base64TextLaws.{letters-plain}
+use Rattle.cbf_lines.proofs.ClosingLaws.{no-place, same-place, word-short, word-at}
+use Rattle.cbf_format.specs.Sections as S
+use Rattle.cbf_lines.specs.declared.closing.Next.the-variants as N
+use Rattle.cbf_base64.specs.declared.base64_text.Base64Text.the-variants as T
 
 -- ---- BINARY
 
@@ -48,11 +51,12 @@ closedData first after (Span to next) = At first to next
 -- the marker, the octets, their closing
 module _ (file : List ℕ) (limit size at : ℕ) where
   afterMarker : List ℕ → Parser S.Data
-  afterMarker m = bind (octets size) (closedAfter limit size)
+  afterMarker m = bind (exactly size) (closedAfter limit size)
 
-  unmarked : N.Missing ≡ nextAt at (word marker (drop at file)) → Refused (record { number = 8; place = at }) ≡ dataAt at (binaryData limit size (drop at file))
+  unmarked : N.Missing ≡ nextAt at (literal marker (drop at file)) → Refused (record { number = 8; place = at })
+      ≡ dataAt at (binaryData limit size (drop at file))
   unfolding binaryData afterMarker
-  unmarked e = go (word marker (drop at file)) e
+  unmarked e = go (literal marker (drop at file)) e
     where
       here : Refused (record { number = 8; place = at }) ≡ Refused (record { number = 8; place = at + 0 })
       here = let z : at ≡ at + 0 = omega arith in ap (λ (p : ℕ). Refused (record { number = 8; place = p })) z
@@ -66,15 +70,17 @@ module _ (file : List ℕ) (limit size at : ℕ) where
   binary-short h = unmarked (word-short marker file at h)
 
   module _ {first : ℕ} (h : first ≡ at + 4) (k : first ≤ length file) where
-    pub binary-other : same (slice at first file) marker ≡ false → Refused (record { number = 8; place = at }) ≡ dataAt at (binaryData limit size (drop at file))
+    pub binary-other : same (slice at first file) marker ≡ false → Refused (record { number = 8; place = at })
+        ≡ dataAt at (binaryData limit size (drop at file))
     binary-other e = unmarked (word-at marker file at first h k false e)
 
     module _ (there : same (slice at first file) marker ≡ true) where
       marked : dataAt at (plus 4 (afterMarker [] (drop first file))) ≡ dataAt at (binaryData limit size (drop at file))
       unfolding binaryData afterMarker
-      marked = go (word marker (drop at file)) (word-at marker file at first h k true there)
+      marked = go (literal marker (drop at file)) (word-at marker file at first h k true there)
         where
-          go : (r : Res (List ℕ)) → N.At first ≡ nextAt at r → dataAt at (plus 4 (afterMarker [] (drop first file))) ≡ dataAt at (then (blame 8 r) afterMarker (drop at file))
+          go : (r : Res (List ℕ)) → N.At first ≡ nextAt at r → dataAt at (plus 4 (afterMarker [] (drop first file)))
+              ≡ dataAt at (then (blame 8 r) afterMarker (drop at file))
           go (bad k p) e = absurd (no-place e)
           go cut e = absurd (no-place e)
           go (ok t n) e =
@@ -83,7 +89,7 @@ module _ (file : List ℕ) (limit size at : ℕ) where
               rw (q, drop-drop 4 at file, ← h)
 
       pub binary-few : length file - first < size → Refused (record { number = 9; place = length file }) ≡ dataAt at (binaryData limit size (drop at file))
-      unfolding octets afterMarker
+      unfolding exactly afterMarker
       binary-few l = go (drop first file) (length-drop first file) ∙ marked
         where
           go : (s : List ℕ) → length s ≡ length file - first → Refused (record { number = 9; place = length file }) ≡ dataAt at (plus 4 (afterMarker [] s))
@@ -93,7 +99,7 @@ module _ (file : List ℕ) (limit size at : ℕ) where
 
       pub binary-closed : {after : ℕ} → after ≡ first + size → after ≤ length file → (r : Ending) → r ≡ closedAt after (closed limit (drop after file))
           → closedData first after r ≡ dataAt at (binaryData limit size (drop at file))
-      unfolding octets afterMarker
+      unfolding exactly afterMarker
       binary-closed {after} a l r q = ap (closedData first after) q ∙ whole ∙ marked
         where
           wrong : after ≡ at + (4 + (size + 0))
@@ -116,29 +122,30 @@ module _ (file : List ℕ) (limit size at : ℕ) where
 -- the octets of a BINARY section are those after the marker
 pub binary-octets : (limit size : ℕ) (s : List ℕ) (d : S.Data) (n : ℕ) → binaryData limit size s ≡ ok d n → (d .octets ≡ take size (drop 4 s)) × (d .lead ≡ 4)
 unfolding binaryData
-binary-octets limit size s d n e = go (unbind (λ s. blame 8 (word marker s)) (λ m. bind (octets size) (closedAfter limit size)) s d n e)
+binary-octets limit size s d n e = go (unbind (λ s. blame 8 (literal marker s)) (λ m. bind (exactly size) (closedAfter limit size)) s d n e)
   where
     U₁ : Type 0
-    U₁ = Unbound (λ s. blame 8 (word marker s)) (λ m. bind (octets size) (closedAfter limit size)) s d n
+    U₁ = Unbound (λ s. blame 8 (literal marker s)) (λ m. bind (exactly size) (closedAfter limit size)) s d n
 
     U₂ : U₁ → Type 0
-    U₂ u = Unbound (octets size) (closedAfter limit size) (drop (u .first) s) d (u .second)
+    U₂ u = Unbound (exactly size) (closedAfter limit size) (drop (u .first) s) d (u .second)
 
     U₃ : (u : U₁) → U₂ u → Type 0
     U₃ u v = Unbound (λ s. blame 9 (closed limit s)) (λ c. ret (binaryOf size (v .val) c)) (drop (v .first) (drop (u .first) s)) d (v .second)
 
     go₃ : (u : U₁) (v : U₂ u) → U₃ u v → (d .octets ≡ take size (drop 4 s)) × (d .lead ≡ 4)
     go₃ u v w =
-        let a : u .first ≡ 4 = word-count marker s (u .val) (u .first) (unblame 8 (word marker s) (u .val) (u .first) (u .did)) in
+        let a : u .first ≡ 4 = word-count marker s (u .val) (u .first) (unblame 8 (literal marker s) (u .val) (u .first) (u .did)) in
         let q : binaryOf size (v .val) (w .val) ≡ d = ok-val (w .then-did) in
         let b : v .val ≡ take size (drop (u .first) s) = unoctets size (drop (u .first) s) (v .val) (v .first) (v .did) .1 in
         (sym (ap (λ (z : S.Data). z .octets) q) ∙ b ∙ ap (λ (k : ℕ). take size (drop k s)) a, sym (ap (λ (z : S.Data). z .lead) q))
 
     go₂ : (u : U₁) → U₂ u → (d .octets ≡ take size (drop 4 s)) × (d .lead ≡ 4)
-    go₂ u v = go₃ u v (unbind (λ s. blame 9 (closed limit s)) (λ c. ret (binaryOf size (v .val) c)) (drop (v .first) (drop (u .first) s)) d (v .second) (v .then-did))
+    go₂ u v = go₃ u v (unbind (λ s. blame 9 (closed limit s)) (λ c. ret (binaryOf size (v .val) c))
+        (drop (v .first) (drop (u .first) s)) d (v .second) (v .then-did))
 
     go : U₁ → (d .octets ≡ take size (drop 4 s)) × (d .lead ≡ 4)
-    go u = go₂ u (unbind (octets size) (closedAfter limit size) (drop (u .first) s) d (u .second) (u .then-did))
+    go u = go₂ u (unbind (exactly size) (closedAfter limit size) (drop (u .first) s) d (u .second) (u .then-did))
 
 -- ---- BASE64
 
@@ -157,7 +164,7 @@ not-closed : {g : Groups} {i j : ℕ} → T.CutOff ≡ T.Closed g i j → ⊥
 not-closed e = let z : _≡_ {A = ℕ} 0 1 = cc in omega arith
 
 -- a closed text has no more symbols than a file has bytes
-pub few-closed : {t : Base64Text} {g : Groups} {close after : ℕ} → t ≡ T.Closed g close after → FewOfText t → (g .letters ≤ 1073741824) × (g .pads ≤ 1073741824)
+pub few-closed : {t : Base64Text} {g : Groups} {close after : ℕ} → t ≡ T.Closed g close after → FewOfText t → (g .letters ≤ fileLimit) × (g .pads ≤ fileLimit)
 few-closed {t} e h = let k = subst FewOfText e h in (omega (arith, k), omega (arith, k))
 
 module _ (file : List ℕ) (limit size at : ℕ) where
@@ -168,7 +175,8 @@ module _ (file : List ℕ) (limit size at : ℕ) where
   unfolding base64Data
   base64-refused {r} e = go found e
     where
-      go : (x : Res Letters) → T.Refused r ≡ lettersAt at at (groupsOf []) x → Refused r ≡ dataAt at (textClosed limit (screen (goodText size) x) (drop at file))
+      go : (x : Res Letters) → T.Refused r ≡ lettersAt at at (groupsOf []) x → Refused r
+          ≡ dataAt at (textClosed limit (screen (goodText size) x) (drop at file))
       go (bad k p) e = let z : r ≡ record { number = k; place = at + p } = cc in ap Refused z
       go cut e = absurd (not-refused e)
       go (ok l n) e = absurd (no-text e)
@@ -225,7 +233,8 @@ module _ (file : List ℕ) (limit size at : ℕ) where
     base64-closed h r q =
         let f = letters-found in
         let d = held-decodes size plain (ap (λ (x : Groups). groupsHold x size) (sym (f .groups)) ∙ h) in
-        ap (closedText at close) q ∙ rw (f .is, d .fits, drop-drop (f .count) at file, ← (f .next)) (go (f .text) (f .count) (f .place) (f .next) (semicolonLine limit (drop after file)))
+        ap (closedText at close) q ∙ rw (f .is, d .fits, drop-drop (f .count) at file, ← (f .next))
+        (go (f .text) (f .count) (f .place) (f .next) (semicolonLine limit (drop after file)))
       where
         go : (l : Letters) (n : ℕ) → close ≡ at + l .closing → after ≡ at + n → (x : Res (List ℕ))
             → closedText at close (nextAt after x) ≡ dataAt at (S.blameAt 9 (l .closing) (plus n (then x (λ e. ret (base64Of l)) (drop after file))))
@@ -244,7 +253,8 @@ abbrev pub dataBy : Bool → ℕ → ℕ → Parser S.Data
 dataBy true limit size = base64Data limit size
 dataBy false limit size = binaryData limit size
 
-pub by-text : (limit size at : ℕ) (s : List ℕ) (e : Encoding) {b : Bool} {r : Data} → b ≡ isText e → r ≡ dataAt at (dataBy b limit size s) → r ≡ dataAt at (dataFor limit e size s)
+pub by-text : (limit size at : ℕ) (s : List ℕ) (e : Encoding) {b : Bool} {r : Data} → b ≡ isText e → r
+    ≡ dataAt at (dataBy b limit size s) → r ≡ dataAt at (dataFor limit e size s)
 by-text limit size at s e q h = h ∙ ap (λ (b : Bool). dataAt at (dataBy b limit size s)) q ∙ go e
   where
     go : (e : Encoding) → dataAt at (dataBy (isText e) limit size s) ≡ dataAt at (dataFor limit e size s)

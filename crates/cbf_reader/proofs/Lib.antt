@@ -1,24 +1,7 @@
 -- The laws that the proofs of the functions use.
-pub mod Texts
-pub mod LineLaws
-pub mod FirstLineLaws
-pub mod HeaderLaws
-pub mod ValueLaws
-pub mod Grouping
-pub mod PartsLaws
-pub mod WordLaws
-pub mod PartLaws
-pub mod KnownLaws
-pub mod DescriptionLaws
-pub mod FoundLaws
-pub mod JudgeLaws
-pub mod SectionHeaderLaws
-pub mod ClosingLaws
-pub mod GroupLaws
-pub mod Base64Laws
+pub mod LoopLaws
 pub mod DataLaws
 pub mod StepLaws
 pub mod SectionCounts
 pub mod WalkLaws
-pub mod LoopLaws
-pub mod SurveyLaws
+pub mod WholeFileLaws

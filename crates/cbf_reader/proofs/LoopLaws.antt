@@ -1,33 +1,44 @@
--- A loop over the sections of a file: at its start, with one section more, and where the file ends or is refused. Assumes nothing.
-use mathlib.Core.Path.{_≡_, sym, ap, _∙_, subst}
-use mathlib.Core.List.{List, [], _∷_, _++_}
+-- A loop over the sections of a file: at its start, with one section more, and where the file ends or is refused.
+-- Assumes nothing.
+use mathlib.Core.Path.{_≡_, refl, sym, _∙_, ap, subst}
+use mathlib.Core.Bool.{Bool, true, false}
 use Prim.Native.Nat.{ℕ, suc, _+_, _-_, _≤_, _<_}
+use Rattle.cbf_walk.specs.Reading.{Item, Reading, refused, good, flat, from}
+use Rattle.cbf_walk.proofs.ReadingLaws.{refused≢good, onto-good}
+use mathlib.Core.List.{List, [], _∷_, _++_}
 use native.Mathlib.Omega.{arith}
 use lib.ListN.{length, length-append}
-use Rattle.cbf_walk.specs.Reading.{refused, good, flat, from}
-use Rattle.cbf_walk.proofs.ReadingLaws.{onto-good}
-use Rattle.cbf_pixels.specs.declared.Refusal.{Refusal}
-use Rattle.cbf_format.specs.Sections as S
-use Rattle.cbf_format.specs.Files as F
+use Rattle.cbf_answers.specs.declared.Refusal.{Refusal}
+use Rattle.cbf_answers.specs.Limits.{fileLimit}
 use Rattle.cbf_format.specs.Listing.{Placed, sections}
-use Rattle.cbf_reader.specs.WalkPlaces.{whole, startCursor, Come, SectionOf, NextSays, endOf}
+use Rattle.cbf_reader.specs.Walk.{whole, startCursor, ReadTo, SectionOf, NextSays, endOf}
 use Rattle.cbf_reader.specs.declared.step.Cursor.{Cursor}
-use Rattle.cbf_reader.specs.declared.step.Section.{Section}
+use Rattle.cbf_format.specs.declared.Section.{Section}
 use Rattle.cbf_reader.specs.declared.step.Field.{Field}
 use Rattle.cbf_reader.specs.declared.step.Field.the-variants.{Outside}
 use Rattle.cbf_reader.specs.declared.walk.NextSection.{NextSection}
 use Rattle.cbf_reader.specs.declared.walk.NextSection.the-variants.{Refused, End, Found}
 use Rattle.cbf_reader.proofs.SectionCounts.{sections-append, sections-lines, sections-found}
 use Rattle.cbf_reader.proofs.WalkLaws.{come-start, come-length, walked-start, walk-end}
+use Rattle.cbf_format.specs.Sections as S
+use Rattle.cbf_format.specs.Files as F
+
+-- ---- a file that is refused
+
+-- nothing is written of it where only an accepted one is written
+pub refused-off : (writing : Bool) {r : Reading (Item F.State S.Section)} {k p : ℕ} → (writing ≡ true → (its : F.Tree) × (r ≡ good its)) → r ≡ refused k p
+    → writing ≡ false
+refused-off false fits e = refl
+refused-off true fits e = absurd (refused≢good (sym e ∙ fits refl .1))
 
 -- the loop came to the cursor, before the first line or after a section
 pub record LoopAt (limit : ℕ) (file : List ℕ) (c : Cursor) : Type 0 where
   pub done : F.Tree
-  pub come : Come limit file done c
+  pub come : ReadTo limit file done c
   pub outside : 0 < c .at → c .field ≡ Outside
 
 -- before the first line (an abbreviation: a use sees that no items were read)
-abbrev pub loop-start : (limit : ℕ) (file : List ℕ) (c : Cursor) → c ≡ startCursor → length file ≤ S.fileLimit → LoopAt limit file c
+abbrev pub loop-start : (limit : ℕ) (file : List ℕ) (c : Cursor) → c ≡ startCursor → length file ≤ fileLimit → LoopAt limit file c
 loop-start limit file c e h = record {
   done = [];
   come = come-start limit file c e h;
@@ -57,7 +68,7 @@ module _ {limit : ℕ} {file : List ℕ} {c : Cursor} (k : LoopAt limit file c) 
   pub loop-front : (its : F.Tree) → whole limit file ≡ good its → (rest : List Placed) × (sections 0 its ≡ sections 0 (k .done) ++ rest)
   loop-front its e =
       let g = k .come in
-      let b = onto-good (k .done) (from 11 (F.step limit) F.due S.fileLimit file (c .at) (g .state)) its (sym (g .reached .so-far) ∙ e) in
+      let b = onto-good (k .done) (from 11 (F.step limit) F.due fileLimit file (c .at) (g .state)) its (sym (g .reached .so-far) ∙ e) in
       (sections (0 + length (flat (k .done))) (b .0), ap (sections 0) (b .1) ∙ sections-append (k .done) (b .0) 0)
 
   -- the file ends at the cursor
@@ -68,7 +79,7 @@ module _ {limit : ℕ} {file : List ℕ} {c : Cursor} (k : LoopAt limit file c) 
       (walk-end limit file c (k .come .ready) past (k .done) (w .0) (w .1) (w .2)))
 
   -- what reading on from the cursor gave
-  module _ {r : NextSection} (says : (done : F.Tree) → Come limit file done c → NextSays limit file done r) where
+  module _ {r : NextSection} (says : (done : F.Tree) → ReadTo limit file done c → NextSays limit file done r) where
     told : {x : NextSection} → r ≡ x → NextSays limit file (k .done) x
     told is = subst (NextSays limit file (k .done)) is (says (k .done) (k .come))
 

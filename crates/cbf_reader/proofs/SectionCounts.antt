@@ -7,16 +7,18 @@ use native.Mathlib.Omega.{arith}
 use lib.ListN.{length, length-append}
 use Rattle.cbf_walk.specs.Parsers.{ok}
 use Rattle.cbf_walk.specs.Reading.{Item, flat}
-use Rattle.cbf_format.specs.Sections as S
-use Rattle.cbf_format.specs.Files as F
 use Rattle.cbf_format.specs.Listing.{Placed, addPlaced, sections}
 use Rattle.cbf_format.proofs.FileLaws.{passed, took}
+use Rattle.cbf_format.specs.Sections as S
+use Rattle.cbf_format.specs.Files as F
 
 -- the number of sections does not depend on the place
 length-sections : (its : F.Tree) (at at′ : ℕ) → length (sections at its) ≡ length (sections at′ its)
 unfolding sections
 length-sections [] at at′ = refl
-length-sections (it ∷ its) at at′ = go (it .info) (sections (at + length (it .bytes)) its) (sections (at′ + length (it .bytes)) its) (length-sections its (at + length (it .bytes)) (at′ + length (it .bytes)))
+length-sections (it ∷ its) at at′ = go (it .info) (sections (at + length (it .bytes)) its)
+    (sections (at′ + length (it .bytes)) its) (length-sections its (at + length (it .bytes))
+    (at′ + length (it .bytes)))
   where
     go : (o : Option S.Section) (l l′ : List Placed) → length l ≡ length l′ → length (addPlaced at o l) ≡ length (addPlaced at′ o l′)
     go none l l′ e = e
@@ -37,7 +39,12 @@ sections-append (it ∷ a) b at =
 
 pub length-sections-append : (a b : F.Tree) (at at′ : ℕ) → length (sections at (a ++ b)) ≡ length (sections at a) + length (sections at′ b)
 length-sections-append a b at at′ =
-    ap length (sections-append a b at) ∙ omega (arith, length-append (sections at a) (sections (at + length (flat a)) b), length-sections b (at + length (flat a)) at′)
+    ap length (sections-append a b at) ∙ omega (
+      arith,
+      length-append (sections at a) (sections (at + length (flat a))
+          b),
+      length-sections b (at + length (flat a)) at′,
+    )
 
 -- items without a section
 no-placed : (l : List Placed) → length l ≡ 0 → l ≡ []

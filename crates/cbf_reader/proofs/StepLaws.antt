@@ -15,35 +15,37 @@ use denote.Enum.Declared.{tagOf}
 use Rattle.cbf_walk.specs.Parsers.{Res, bad, cut, ok, ret, plus, then, bind, counted, screen, screenOr}
 use Rattle.cbf_format.specs.Text.{bytes, blank, blanks, lowers, same}
 use Rattle.cbf_format.specs.Lines.{line, refusedByte, textLine}
-use Rattle.cbf_format.specs.Files as F
-use Rattle.cbf_format.specs.Sections as S
-use Rattle.cbf_format.specs.Descriptions as D
+use Rattle.cbf_answers.specs.Limits.{fileLimit}
 use Rattle.cbf_format.specs.declared.Encoding.{Encoding}
 use Rattle.cbf_format.proofs.SectionTame.{headers-tame, section-tame}
-use Rattle.cbf_reader.specs.Places.{Run, lineAt}
-use Rattle.cbf_reader.specs.Classes.{inClass}
-use Rattle.cbf_reader.specs.declared.text.Class.the-variants.{NotBlank}
-use Rattle.cbf_reader.specs.StepPlaces.{fieldAt, Back, CursorOf, Ready, lineOfField, NextBlock, sectionReadAt, sectionStep, StepSays}
-use Rattle.cbf_reader.specs.declared.value.Range.{Range}
+use Rattle.cbf_lines.specs.Text.{Run, inClass}
+use Rattle.cbf_lines.specs.Line.{lineAt}
+use Rattle.cbf_lines.specs.declared.text.Class.the-variants.{NotBlank}
+use Rattle.cbf_reader.specs.Step.{fieldAt, Back, CursorOf, Ready, lineOfField, NextBlock, sectionReadAt}
+use Rattle.cbf_reader.specs.Step.{sectionStep, StepSays}
+use Rattle.cbf_format.specs.declared.Range.{Range}
 use Rattle.cbf_reader.specs.declared.step.Field.{Field}
 use Rattle.cbf_reader.specs.declared.step.Field.the-variants.{First, Outside, Opened, Inside}
 use Rattle.cbf_reader.specs.declared.step.Cursor.{Cursor}
 use Rattle.cbf_reader.specs.declared.step.SectionRead.{SectionRead}
-use Rattle.cbf_reader.specs.declared.step.SectionRead.the-variants as R
 use Rattle.cbf_reader.specs.declared.step.Stepped.{Stepped}
-use Rattle.cbf_reader.specs.declared.step.Stepped.the-variants as T
-use Rattle.cbf_reader.specs.declared.line.Line.the-variants as L
-use Rattle.cbf_reader.specs.declared.section_headers.Headers.{Headers}
-use Rattle.cbf_reader.specs.declared.section_headers.Headers.the-variants as H
+use Rattle.cbf_headers.specs.declared.section_headers.Headers.{Headers}
 use Rattle.cbf_reader.specs.declared.data.Data.{Data}
-use Rattle.cbf_reader.specs.declared.data.Data.the-variants as O
 use Rattle.cbf_format.specs.declared.Description.{Description}
-use Rattle.cbf_reader.specs.HeaderPlaces.{headersReadAt}
-use Rattle.cbf_reader.specs.DataPlaces.{dataAt}
+use Rattle.cbf_headers.specs.SectionHeaders.{headersReadAt}
+use Rattle.cbf_reader.specs.Data.{dataAt}
 use Rattle.cbf_reader.proofs.step.Field.{the-type}
 use Rattle.cbf_format.proofs.Slices.{slice-take}
-use Rattle.cbf_reader.proofs.Texts.{by-run, same-lengths, length-lowers}
-use Rattle.cbf_reader.proofs.LineLaws.{Passed, passed, says-text, says-refused}
+use Rattle.cbf_lines.proofs.TextLaws.{by-run, same-lengths, length-lowers}
+use Rattle.cbf_lines.proofs.LineLaws.{Passed, passed, says-text, says-refused}
+use Rattle.cbf_format.specs.Files as F
+use Rattle.cbf_format.specs.Sections as S
+use Rattle.cbf_format.specs.Descriptions as D
+use Rattle.cbf_reader.specs.declared.step.SectionRead.the-variants as R
+use Rattle.cbf_reader.specs.declared.step.Stepped.the-variants as T
+use Rattle.cbf_lines.specs.declared.line.Line.the-variants as L
+use Rattle.cbf_headers.specs.declared.section_headers.Headers.the-variants as H
+use Rattle.cbf_reader.specs.declared.data.Data.the-variants as O
 
 -- ---- fields
 
@@ -64,7 +66,8 @@ module _ (at : ℕ) where
   not-opened x h (F.inside m) e = refl
 
   -- the line that a step reads
-  pub line-first : (limit : ℕ) (file : List ℕ) (f : F.Field) → Back at f → First ≡ fieldAt at f → lineAt 0 (screen (F.refusedFirst limit) (line file)) ≡ lineOfField at limit f (drop at file)
+  pub line-first : (limit : ℕ) (file : List ℕ) (f : F.Field) → Back at f → First ≡ fieldAt at f
+      → lineAt 0 (screen (F.refusedFirst limit) (line file)) ≡ lineOfField at limit f (drop at file)
   line-first limit file F.first-line b e = ap (λ (k : ℕ). lineOfField k limit F.first-line (drop k file)) (sym b)
   line-first limit file F.outside b e = let q : _≡_ {A = ℕ} 0 1 = ap kind e in absurd (omega arith)
   line-first limit file (F.opened m) b e = let q : _≡_ {A = ℕ} 0 2 = ap kind e in absurd (omega arith)
@@ -72,7 +75,8 @@ module _ (at : ℕ) where
 
   pub line-other : (limit : ℕ) (s : List ℕ) (x : Field) → OneOf (1 ∷ 2 ∷ 3 ∷ []) (kind x) → (f : F.Field) → x ≡ fieldAt at f
       → lineAt at (textLine limit s) ≡ lineOfField at limit f s
-  line-other limit s x h F.first-line e = let q : kind x ≡ 0 = ap kind e in absurd (⊎-elim (λ z. omega arith) (λ k. ⊎-elim (λ z. omega arith) (λ z. omega arith) k) h)
+  line-other limit s x h F.first-line e = let q : kind x ≡ 0 = ap kind e in absurd (⊎-elim (λ z. omega arith)
+      (λ k. ⊎-elim (λ z. omega arith) (λ z. omega arith) k) h)
   line-other limit s x h F.outside e = refl
   line-other limit s x h (F.opened m) e = refl
   line-other limit s x h (F.inside m) e = refl
@@ -147,7 +151,8 @@ module _ (file : List ℕ) where
       ∙ sym (slice-cons j r file 0 k (omega arith)))
       (end (ltb r to) refl ∙ sym (slice-empty r file))
     where
-      on : (t : Bool) → not t ≡ true → (j : ℕ) → cond t [] (getD file j 0 ∷ F.upToBlank (slice (suc j) to file)) ≡ getD file j 0 ∷ F.upToBlank (slice (suc j) to file)
+      on : (t : Bool) → not t ≡ true → (j : ℕ) → cond t [] (getD file j 0 ∷ F.upToBlank (slice (suc j) to file))
+          ≡ getD file j 0 ∷ F.upToBlank (slice (suc j) to file)
       on true e j = let y : _≡_ {A = ℕ} 1 0 = ap (λ (b : Bool). cond b 0 1) e in absurd (omega arith)
       on false e j = refl
 
@@ -176,7 +181,8 @@ module _ (file : List ℕ) where
         let len = length-slice at to file fits in
         let w : take 5 t ≡ t = take-all 5 t (omega arith) in
         let o : same (lowers (take 5 t)) dataWord ≡ false
-        = ap (λ (x : List ℕ). same (lowers x) dataWord) w ∙ same-lengths (lowers t) dataWord (λ e. let m : length t ≡ 5 = sym (length-lowers t) ∙ e in absurd (omega arith)) in
+        = ap (λ (x : List ℕ). same (lowers x) dataWord) w ∙ same-lengths (lowers t) dataWord (λ e. let m : length t
+        ≡ 5 = sym (length-lowers t) ∙ e in absurd (omega arith)) in
         record { named = sym (ap named o); low = l; high = k }
 
     module _ (enough : at + 5 ≤ to) where
@@ -188,7 +194,8 @@ module _ (file : List ℕ) where
       word : (t : Bool) → t ≡ same dataWord (lowers (slice at (at + 5) file)) → same (lowers (take 5 (slice at to file))) dataWord ≡ t
       word t e = ap (λ (x : List ℕ). same (lowers x) dataWord) front ∙ same-turned (lowers (slice at (at + 5) file)) dataWord ∙ sym e
 
-      pub block-other : false ≡ same dataWord (lowers (slice at (at + 5) file)) → block .from ≤ block .to → block .to ≤ length file → NextBlock file at to block block
+      pub block-other : false ≡ same dataWord (lowers (slice at (at + 5) file)) → block .from ≤ block .to
+          → block .to ≤ length file → NextBlock file at to block block
       block-other e l k = record { named = sym (ap named (word false e)); low = l; high = k }
 
       pub block-named : true ≡ same dataWord (lowers (slice at (at + 5) file)) → (r : ℕ) → Run (inClass NotBlank) file (at + 5) to r
@@ -212,7 +219,8 @@ module _ (file : List ℕ) (at to : ℕ) (block : Range) where
   block-outside x o r b = record { named = λ f e. b .named ∙ go f (sym o ∙ e); low = b .low; high = b .high }
     where
       go : (f : F.Field) → Outside ≡ fieldAt at f
-          → F.nextBlock F.outside (slice at to file) (slice (block .from) (block .to) file) ≡ F.nextBlock f (slice at to file) (slice (block .from) (block .to) file)
+          → F.nextBlock F.outside (slice at to file) (slice (block .from) (block .to) file)
+          ≡ F.nextBlock f (slice at to file) (slice (block .from) (block .to) file)
       go F.first-line e = let q : _≡_ {A = ℕ} 1 0 = ap kind e in absurd (omega arith)
       go F.outside e = refl
       go (F.opened m) e = let q : _≡_ {A = ℕ} 1 2 = ap kind e in absurd (omega arith)
@@ -250,7 +258,8 @@ after-line file c to next r g b h st n e k =
     record {
       count = k .count;
       block = b .named (st .field) (k .field) ∙ ap (F.nextBlock (st .field) (slice (c .at) to file)) (k .block);
-      back = subst (λ (z : ℕ). Back z (F.nextField (st .field) (slice (c .at) to file) n)) (sym e) (back-next (c .at) n (st .field) (slice (c .at) to file) (k .back));
+      back = subst (λ (z : ℕ). Back z (F.nextField (st .field) (slice (c .at) to file) n)) (sym e)
+          (back-next (c .at) n (st .field) (slice (c .at) to file) (k .back));
       field = h (st .field) n (k .back) (k .field) ∙ ap (λ (z : ℕ). fieldAt z (F.nextField (st .field) (slice (c .at) to file) n)) (sym e);
     }
 
@@ -292,25 +301,26 @@ module _ (limit : ℕ) (file : List ℕ) (from at : ℕ) (low : from ≤ at) (bl
       ap (λ (s : List ℕ). withData from block d (dataAt (at + n) (S.dataFor limit (d .encoding) (d .size) s))) (sym (drop-drop n at file))
       ∙ with-data d n (S.dataFor limit (d .encoding) (d .size) (drop n (drop at file))) (drop n (drop at file))
 
-  pub section-read : (h : Headers) → h ≡ headersReadAt at (D.headers limit S.fileLimit (drop at file))
+  pub section-read : (h : Headers) → h ≡ headersReadAt at (D.headers limit fileLimit (drop at file))
       → withHeaders from block h dataFrom ≡ sectionReadAt from at block (S.section limit b (at - from) (drop at file))
   unfolding S.section
-  section-read h e = ap (λ (y : Headers). withHeaders from block y dataFrom) e ∙ with-headers (D.headers limit S.fileLimit (drop at file))
+  section-read h e = ap (λ (y : Headers). withHeaders from block y dataFrom) e ∙ with-headers (D.headers limit fileLimit (drop at file))
 
 abbrev place-of : Headers → ℕ
 place-of (H.Refused r) = 0
 place-of H.CutOff = 0
 place-of (H.As d n) = n
 
-pub headers-within : (limit : ℕ) (file : List ℕ) (at : ℕ) → at ≤ length file → (d : Description) (next : ℕ) → H.As d next ≡ headersReadAt at (D.headers limit S.fileLimit (drop at file)) → next ≤ length file
-headers-within limit file at h d next = go (D.headers limit S.fileLimit (drop at file)) refl
+pub headers-within : (limit : ℕ) (file : List ℕ) (at : ℕ) → at ≤ length file → (d : Description) (next : ℕ)
+    → H.As d next ≡ headersReadAt at (D.headers limit fileLimit (drop at file)) → next ≤ length file
+headers-within limit file at h d next = go (D.headers limit fileLimit (drop at file)) refl
   where
-    go : (r : Res Description) → D.headers limit S.fileLimit (drop at file) ≡ r → H.As d next ≡ headersReadAt at r → next ≤ length file
+    go : (r : Res Description) → D.headers limit fileLimit (drop at file) ≡ r → H.As d next ≡ headersReadAt at r → next ≤ length file
     go (bad k p) q e = let z : next ≡ 0 = ap place-of e in omega arith
     go cut q e = let z : next ≡ 0 = ap place-of e in omega arith
     go (ok x n) q e =
         let z : next ≡ at + n = ap place-of e in
-        let w = headers-tame limit S.fileLimit .within (drop at file) x n q in
+        let w = headers-tame limit fileLimit .within (drop at file) x n q in
         let l : length (drop at file) ≡ length file - at = length-drop at file in
         omega arith
 
@@ -321,7 +331,8 @@ stepOver c (R.Refused r) = T.Refused r
 stepOver c R.CutOff = T.CutOff
 stepOver c (R.At section after) = T.Section section (record { at = after; count = c .count + 1; block = c .block; field = Outside })
 
-module _ (limit : ℕ) (file : List ℕ) (c : Cursor) (next : ℕ) (ready : Ready file c) (low : c .at ≤ next) (high : next ≤ length file) (st : F.State) (of : CursorOf file c st) where
+module _ (limit : ℕ) (file : List ℕ) (c : Cursor) (next : ℕ) (ready : Ready file c) (low : c .at ≤ next)
+    (high : next ≤ length file) (st : F.State) (of : CursorOf file c st) where
   same-count : c .count ≡ st .count
   same-count = of .count
 
@@ -338,7 +349,14 @@ module _ (limit : ℕ) (file : List ℕ) (c : Cursor) (next : ℕ) (ready : Read
         (
           omega arith,
           record { count = omega arith; block = of .block; back = omega arith; field = refl },
-          record { short = ready .short; at-in = omega arith; few = omega arith; block-low = ready .block-low; block-high = ready .block-high; stands = (F.outside, (omega arith, refl)) },
+          record {
+            short = ready .short;
+            at-in = omega arith;
+            few = omega arith;
+            block-low = ready .block-low;
+            block-high = ready .block-high;
+            stands = (F.outside, (omega arith, refl));
+          },
         ),
       )
 
@@ -349,23 +367,28 @@ module _ (limit : ℕ) (file : List ℕ) (c : Cursor) (next : ℕ) (ready : Read
       let z : c .at ≡ c .at + 0 = omega arith in
       subst
       (λ (b : Bool).
-      StepSays file c (cond b (bad 4 0) (plus (next - c .at) (bind (S.section limit (st .block) (next - c .at)) (λ i. ret (some i, F.afterSection st)) (drop next file))))
+      StepSays file c (cond b (bad 4 0) (plus (next - c .at) (bind (S.section limit (st .block) (next - c .at))
+      (λ i. ret (some i, F.afterSection st)) (drop next file))))
       (T.Refused (record { number = 4; place = c .at })))
       (sym e) (ap (λ (y : ℕ). T.Refused (record { number = 4; place = y })) z)
 
-  pub section-over : c .count < 512 → (r : SectionRead) → sectionReadAt (c .at) next (c .block) (S.section limit (st .block) (next - c .at) (drop next file)) ≡ r
+  pub section-over : c .count < 512 → (r : SectionRead) → sectionReadAt (c .at) next (c .block)
+      (S.section limit (st .block) (next - c .at) (drop next file)) ≡ r
       → StepSays file c (sectionStep limit st (next - c .at) (drop next file)) (stepOver c r)
   section-over h r p =
       let n = same-count in
       let e : leb 512 (st .count) ≡ false = lt-leb 512 (st .count) (omega arith) in
       subst
       (λ (b : Bool).
-      StepSays file c (cond b (bad 4 0) (plus (next - c .at) (bind (S.section limit (st .block) (next - c .at)) (λ i. ret (some i, F.afterSection st)) (drop next file)))) (stepOver c r))
+      StepSays file c (cond b (bad 4 0) (plus (next - c .at) (bind (S.section limit (st .block) (next - c .at))
+      (λ i. ret (some i, F.afterSection st)) (drop next file)))) (stepOver c r))
       (sym e)
       (subst
       (λ (y : SectionRead).
-      StepSays file c (plus (next - c .at) (bind (S.section limit (st .block) (next - c .at)) (λ i. ret (some i, F.afterSection st)) (drop next file))) (stepOver c y)) p
-      (over h (S.section limit (st .block) (next - c .at) (drop next file)) (drop next file) (section-tame limit (st .block) (next - c .at) .within (drop next file))))
+      StepSays file c (plus (next - c .at) (bind (S.section limit (st .block) (next - c .at))
+      (λ i. ret (some i, F.afterSection st)) (drop next file))) (stepOver c y)) p
+      (over h (S.section limit (st .block) (next - c .at) (drop next file)) (drop next file)
+      (section-tame limit (st .block) (next - c .at) .within (drop next file))))
 
 -- ---- one step
 
@@ -387,9 +410,11 @@ module _ (limit : ℕ) (file : List ℕ) (at : ℕ) (inside : at ≤ length file
   line-passed to next e = passed (testOf limit f) file at inside to next (e ∙ ap (lineAt at) (step-line limit f (drop at file)))
 
   line-says : (to next : ℕ) → L.Text to next ≡ lineOfField at limit f (drop at file) → F.stepLine limit f (drop at file) ≡ ok (slice at to file) (next - at)
-  line-says to next e = step-line limit f (drop at file) ∙ says-text (testOf limit f) file at inside to next (e ∙ ap (lineAt at) (step-line limit f (drop at file)))
+  line-says to next e = step-line limit f (drop at file) ∙ says-text (testOf limit f) file at inside to next
+      (e ∙ ap (lineAt at) (step-line limit f (drop at file)))
 
-  line-refuses : (k p : ℕ) → L.Refused (record { number = k; place = p }) ≡ lineOfField at limit f (drop at file) → (F.stepLine limit f (drop at file) ≡ bad k (p - at)) × (at ≤ p)
+  line-refuses : (k p : ℕ) → L.Refused (record { number = k; place = p }) ≡ lineOfField at limit f (drop at file)
+      → (F.stepLine limit f (drop at file) ≡ bad k (p - at)) × (at ≤ p)
   line-refuses k p e =
       let q = says-refused (testOf limit f) file at inside k p (e ∙ ap (lineAt at) (step-line limit f (drop at file))) in
       (step-line limit f (drop at file) ∙ q .0, q .1)
@@ -423,7 +448,8 @@ module _ (limit : ℕ) (file : List ℕ) (c : Cursor) (ready : Ready file c) (st
       let v = q .1 in
       let z : p ≡ c .at + (p - c .at) = omega arith in
       subst
-      (λ (y : Res (List ℕ)). StepSays file c (then (counted (screen (F.oneTooMany st) y)) (F.afterStepLine limit st) (drop (c .at) file)) (T.Refused (record { number = k; place = p })))
+      (λ (y : Res (List ℕ)). StepSays file c (then (counted (screen (F.oneTooMany st) y)) (F.afterStepLine limit st)
+      (drop (c .at) file)) (T.Refused (record { number = k; place = p })))
       (sym (q .0)) (ap (λ (y : ℕ). T.Refused (record { number = k; place = y })) z)
 
   module _ (to next : ℕ) (e : L.Text to next ≡ lineOfField (c .at) limit (st .field) (drop (c .at) file)) where
@@ -453,12 +479,21 @@ module _ (limit : ℕ) (file : List ℕ) (c : Cursor) (ready : Ready file c) (st
         let f = ready .few in
         let m : d .count ≡ c .count = o .count ∙ sym (of .count) in
         subst (λ (y : Res (Option S.Section × F.State)). StepSays file c y (T.Line d))
-        (sym (step-is limit st (drop (c .at) file) (slice (c .at) to file) (next - c .at) (line-says limit file (c .at) (ready .at-in) (st .field) to next e) false b)) (
+        (sym (step-is limit st (drop (c .at) file) (slice (c .at) to file) (next - c .at)
+        (line-says limit file (c .at) (ready .at-in) (st .field) to next e) false b)) (
           d,
           refl,
           (
             omega arith,
             o,
-            record { short = ready .short; at-in = omega arith; few = omega arith; block-low = l; block-high = h; stands = (F.nextField (st .field) (slice (c .at) to file) (next - c .at), (o .back, o .field)) },
+            record {
+              short = ready .short;
+              at-in = omega arith;
+              few = omega arith;
+              block-low = l;
+              block-high =
+                  h;
+              stands = (F.nextField (st .field) (slice (c .at) to file) (next - c .at), (o .back, o .field));
+            },
           ),
         )

@@ -1,18 +1,19 @@
 // What follows the empty line after a section's headers, in either transfer encoding.
-use crate::base64;
-use crate::base64_text;
-use crate::base64_text::Base64Text;
-use crate::closing;
-use crate::closing::Ending;
-use crate::closing::Next;
-use crate::text;
+use cbf_answers::Refusal;
+use cbf_base64::base64;
+use cbf_base64::base64_text;
+use cbf_base64::base64_text::Base64Text;
 use cbf_format::Encoding;
-use cbf_pixels::Refusal;
+use cbf_lines::closing;
+use cbf_lines::closing::Ending;
+use cbf_lines::closing::Next;
+use cbf_lines::text;
 ghost use mathlib.Core.Path.{_≡_};
 ghost use Prim.Native.Nat.{_≤_};
 ghost use lib.ListN.{length, drop};
+ghost use Rattle.cbf_answers.specs.Limits.{fileLimit};
 ghost use Rattle.cbf_format.specs.Sections.{binaryData, base64Data, dataFor};
-ghost use Rattle.cbf_reader.specs.DataPlaces.{dataAt, isText};
+ghost use Rattle.cbf_reader.specs.Data.{dataAt, isText};
 
 // Where the first octet is (BASE64: the text), where the section's span ends, and where the next line starts.
 pub enum Data {
@@ -58,7 +59,7 @@ fn binary_data(file: &[u8], at: usize, size: usize, limit: usize) -> Data
 
 // The text of a BASE64 section, at at.
 fn base64_data(file: &[u8], at: usize, size: usize, limit: usize) -> Data
-    requires { ⌜ (at ≤ length (now file)) × (length (now file) ≤ 1073741824) ⌝ }
+    requires { ⌜ (at ≤ length (now file)) × (length (now file) ≤ fileLimit) ⌝ }
     ensures { λ r. ⌜ r ≡ dataAt at (base64Data limit size (drop at (now (file .entry)))) ⌝ }
 {
     let t = base64_text::base64_text(file, at, limit);
@@ -84,7 +85,8 @@ fn base64_data(file: &[u8], at: usize, size: usize, limit: usize) -> Data
     }
 }
 
-// Whether the data are lines of text, which are searched for the closing boundary. BINARY octets are not: they are as many as declared.
+// Whether the data are lines of text, which are searched for the closing boundary. BINARY octets are not: they are as
+// many as declared.
 fn is_text(encoding: Encoding) -> bool
     ensures { λ r. ⌜ r ≡ isText encoding ⌝ }
 {
@@ -96,7 +98,7 @@ fn is_text(encoding: Encoding) -> bool
 
 // The data of a section whose headers declare the encoding and the size, at at.
 pub fn data_for(file: &[u8], at: usize, encoding: Encoding, size: usize, limit: usize) -> Data
-    requires { ⌜ (at ≤ length (now file)) × (length (now file) ≤ 1073741824) ⌝ }
+    requires { ⌜ (at ≤ length (now file)) × (length (now file) ≤ fileLimit) ⌝ }
     ensures { λ r. ⌜ r ≡ dataAt at (dataFor limit encoding size (drop at (now (file .entry)))) ⌝ }
 {
     if is_text(encoding) {

@@ -1,15 +1,16 @@
 // One step of reading: a line, or a whole section.
 use crate::data;
 use crate::data::Data;
-use crate::line;
-use crate::line::Line;
-use crate::section_headers;
-use crate::section_headers::Headers;
-use crate::text;
-use crate::text::Class;
-use crate::value::Range;
+use cbf_answers::Refusal;
 use cbf_format::Description;
-use cbf_pixels::Refusal;
+use cbf_format::Range;
+use cbf_format::Section;
+use cbf_headers::section_headers;
+use cbf_headers::section_headers::Headers;
+use cbf_lines::line;
+use cbf_lines::line::Line;
+use cbf_lines::text;
+use cbf_lines::text::Class;
 ghost use mathlib.Core.Path.{_≡_};
 ghost use mathlib.Core.Bool.{_&&_};
 ghost use mathlib.Core.List.{List};
@@ -17,12 +18,13 @@ ghost use Prim.Native.Nat.{ℕ, _+_, _-_, _≤_};
 ghost use lib.ListN.{length, drop};
 ghost use lib.Seq.{slice};
 ghost use Rattle.cbf_format.specs.Text.{same};
-ghost use Rattle.cbf_format.specs.Sections.{fileLimit, opening, section as sectionOf};
+ghost use Rattle.cbf_answers.specs.Limits.{fileLimit};
+ghost use Rattle.cbf_format.specs.Sections.{opening, section as sectionOf};
+ghost use Rattle.cbf_lines.specs.Text.{Run, inClass};
+ghost use Rattle.cbf_lines.specs.declared.text.Class.the-variants.{NotBlank};
+ghost use Rattle.cbf_reader.specs.Step.{lineOfField, fieldAt, Back, NextBlock, sectionReadAt, Ready, CursorOf};
+ghost use Rattle.cbf_reader.specs.Step.{StepSays, sectionStep};
 ghost use Rattle.cbf_format.specs.Files as F;
-ghost use Rattle.cbf_reader.specs.Places.{Run};
-ghost use Rattle.cbf_reader.specs.declared.text.Class.the-variants.{NotBlank};
-ghost use Rattle.cbf_reader.specs.Classes.{inClass};
-ghost use Rattle.cbf_reader.specs.StepPlaces.{lineOfField, fieldAt, Back, NextBlock, sectionReadAt, Ready, CursorOf, StepSays, sectionStep};
 
 // The state between two lines: in a text field, the place of its opening `;`.
 pub enum Field {
@@ -40,16 +42,6 @@ pub struct Cursor {
     pub field: Field,
 }
 
-// A section: its headers, its span (document 01's term: from the opening boundary's first hyphen to the closing boundary's
-// last), the place of the first octet (BASE64: of the text), and its data block's name.
-pub struct Section {
-    pub description: Description,
-    pub from: usize,
-    pub to: usize,
-    pub first: usize,
-    pub block: Range,
-}
-
 pub enum SectionRead {
     Refused(Refusal),
     CutOff,
@@ -59,7 +51,8 @@ pub enum SectionRead {
 // The section whose boundary line starts at from and ends at at.
 fn section_at(file: &[u8], from: usize, at: usize, block: Range, limit: usize) -> SectionRead
     requires { ⌜ (from ≤ at) × (at ≤ length (now file)) × (length (now file) ≤ fileLimit) ⌝ }
-    ensures { λ r. ⌜ ((b : List ℕ) → r ≡ sectionReadAt from at block (sectionOf limit b (at - from) (drop at (now (file .entry))))) ⌝ }
+    ensures { λ r. ⌜ ((b : List ℕ) → r ≡ sectionReadAt from at block (sectionOf limit b (at - from)
+        (drop at (now (file .entry))))) ⌝ }
 {
     let h = section_headers::section_headers(file, at, limit);
     match h {
@@ -127,7 +120,8 @@ fn starts_field(file: &[u8], at: usize, to: usize) -> bool
 // The field after a line that is no boundary.
 fn next_field(file: &[u8], field: Field, at: usize, to: usize) -> Field
     requires { ⌜ (at ≤ to) × (to ≤ length (now file)) ⌝ }
-    ensures { λ r. ⌜ ((f : F.Field) (n : ℕ) → Back at f → field ≡ fieldAt at f → r ≡ fieldAt (at + n) (F.nextField f (slice at to (now (file .entry))) n)) ⌝ }
+    ensures { λ r. ⌜ ((f : F.Field) (n : ℕ) → Back at f → field ≡ fieldAt at f → r ≡ fieldAt (at + n)
+        (F.nextField f (slice at to (now (file .entry))) n)) ⌝ }
 {
     let starts = starts_field(file, at, to);
     match field {
@@ -159,7 +153,8 @@ fn next_field(file: &[u8], field: Field, at: usize, to: usize) -> Field
 // The line at at: the first one, or another.
 fn line_of_field(file: &[u8], at: usize, field: Field, limit: usize) -> Line
     requires { ⌜ at ≤ length (now file) ⌝ }
-    ensures { λ r. ⌜ ((f : F.Field) → Back at f → field ≡ fieldAt at f → r ≡ lineOfField at limit f (drop at (now (file .entry)))) ⌝ }
+    ensures { λ r. ⌜ ((f : F.Field) → Back at f → field ≡ fieldAt at f → r ≡ lineOfField at limit f
+        (drop at (now (file .entry)))) ⌝ }
 {
     match field {
         Field::First => line::first_line(file, limit),
@@ -178,7 +173,8 @@ pub enum Stepped {
 // The step over the section whose boundary line is from c.at up to next.
 fn section_step(file: &[u8], c: Cursor, next: usize, limit: usize) -> Stepped
     requires { ⌜ Ready (now file) c × (c .at ≤ next) × (next ≤ length (now file)) ⌝ }
-    ensures { λ r. ⌜ ((st : F.State) → CursorOf (now (file .entry)) c st → StepSays (now (file .entry)) c (sectionStep limit st (next - c .at) (drop next (now (file .entry)))) r) ⌝ }
+    ensures { λ r. ⌜ ((st : F.State) → CursorOf (now (file .entry)) c st → StepSays (now (file .entry)) c
+        (sectionStep limit st (next - c .at) (drop next (now (file .entry)))) r) ⌝ }
 {
     if 512 <= c.count {
         return Stepped::Refused(Refusal {
@@ -206,7 +202,8 @@ fn section_step(file: &[u8], c: Cursor, next: usize, limit: usize) -> Stepped
 // Whether the line from at up to to is an opening boundary: in a field that has just opened.
 fn is_boundary(file: &[u8], field: Field, at: usize, to: usize) -> bool
     requires { ⌜ (at ≤ to) × (to ≤ length (now file)) ⌝ }
-    ensures { λ r. ⌜ ((f : F.Field) → field ≡ fieldAt at f → r ≡ (F.isOpened f && same (slice at to (now (file .entry))) opening)) ⌝ }
+    ensures { λ r. ⌜ ((f : F.Field) → field ≡ fieldAt at f → r
+        ≡ (F.isOpened f && same (slice at to (now (file .entry))) opening)) ⌝ }
 {
     match field {
         Field::Opened(p) => text::is_word(file, at, to, b"--CIF-BINARY-FORMAT-SECTION--"),
@@ -216,8 +213,11 @@ fn is_boundary(file: &[u8], field: Field, at: usize, to: usize) -> bool
 
 // The cursor after a line that is no boundary.
 fn line_step(file: &[u8], c: Cursor, to: usize, next: usize) -> Cursor
-    requires { ⌜ (c .at ≤ to) × (to ≤ length (now file)) × (c .block .from ≤ c .block .to) × (c .block .to ≤ length (now file)) ⌝ }
-    ensures { λ r. ⌜ ((st : F.State) (n : ℕ) → next ≡ c .at + n → CursorOf (now (file .entry)) c st → CursorOf (now (file .entry)) r (F.afterLine st (slice (c .at) to (now (file .entry))) n) × (r .at ≡ next) × (r .block .from ≤ r .block .to) × (r .block .to ≤ length (now (file .entry)))) ⌝ }
+    requires { ⌜ (c .at ≤ to) × (to ≤ length (now file)) × (c .block .from ≤ c .block .to)
+        × (c .block .to ≤ length (now file)) ⌝ }
+    ensures { λ r. ⌜ ((st : F.State) (n : ℕ) → next ≡ c .at + n → CursorOf (now (file .entry)) c st
+        → CursorOf (now (file .entry)) r (F.afterLine st (slice (c .at) to (now (file .entry))) n) × (r .at ≡ next)
+        × (r .block .from ≤ r .block .to) × (r .block .to ≤ length (now (file .entry)))) ⌝ }
 {
     let field = c.field;
     let mut block = c.block;
@@ -238,7 +238,8 @@ fn line_step(file: &[u8], c: Cursor, to: usize, next: usize) -> Cursor
 // One step from the cursor.
 pub fn step(file: &[u8], c: Cursor, limit: usize) -> Stepped
     requires { ⌜ Ready (now file) c ⌝ }
-    ensures { λ r. ⌜ ((st : F.State) → CursorOf (now (file .entry)) c st → StepSays (now (file .entry)) c (F.step limit st (drop (c .at) (now (file .entry)))) r) ⌝ }
+    ensures { λ r. ⌜ ((st : F.State) → CursorOf (now (file .entry)) c st → StepSays (now (file .entry)) c
+        (F.step limit st (drop (c .at) (now (file .entry)))) r) ⌝ }
 {
     let field = c.field;
     let l = line_of_field(file, c.at, field, limit);

@@ -2,16 +2,17 @@
 use crate::step;
 use crate::step::Cursor;
 use crate::step::Field;
-use crate::step::Section;
 use crate::step::Stepped;
-use crate::value::Range;
-use cbf_pixels::Refusal;
+use cbf_answers::FILE_LIMIT;
+use cbf_answers::Refusal;
+use cbf_format::Range;
+use cbf_format::Section;
 ghost use mathlib.Core.Path.{_≡_};
 ghost use mathlib.Core.Bool.{true};
 ghost use Prim.Native.Nat.{ℕ};
+ghost use Rattle.cbf_reader.specs.Step.{Ready};
+ghost use Rattle.cbf_reader.specs.Walk.{startCursor, StartSays, openPlace, endOf, FieldReady, ReadTo, NextSays};
 ghost use Rattle.cbf_format.specs.Files as F;
-ghost use Rattle.cbf_reader.specs.StepPlaces.{Ready};
-ghost use Rattle.cbf_reader.specs.WalkPlaces.{startCursor, StartSays, openPlace, endOf, FieldStands, Come, NextSays};
 
 // What reading on gives: the next section and the cursor after it, or the file's end.
 pub enum NextSection {
@@ -42,7 +43,7 @@ pub enum Start {
 pub fn begin(file: &[u8]) -> Start
     ensures { λ r. ⌜ ((limit : ℕ) → StartSays limit (now (file .entry)) r) ⌝ }
 {
-    if 1073741824 < file.len() {
+    if FILE_LIMIT < file.len() {
         return Start::Refused(Refusal {
             number: 4,
             place: 0,
@@ -90,7 +91,8 @@ fn at_end(field: Field) -> NextSection
 // The next section from a cursor that stands in the file.
 fn section_from(file: &[u8], c: Cursor, limit: usize) -> NextSection
     requires { ⌜ Ready (now file) c ⌝ }
-    ensures { λ r. ⌜ ((done : F.Tree) → Come limit (now (file .entry)) done c → NextSays limit (now (file .entry)) done r) ⌝ }
+    ensures { λ r. ⌜ ((done : F.Tree) → ReadTo limit (now (file .entry)) done c → NextSays limit (now (file .entry))
+        done r) ⌝ }
 {
     let mut cursor = c;
     while cursor.at < file.len() {
@@ -117,8 +119,8 @@ fn section_from(file: &[u8], c: Cursor, limit: usize) -> NextSection
 }
 
 // Whether the field's place agrees with the cursor's.
-fn field_stands(field: Field, at: usize) -> bool
-    ensures { λ r. ⌜ (r ≡ true → FieldStands field at) × (FieldStands field at → r ≡ true) ⌝ }
+fn field_is_ready(field: Field, at: usize) -> bool
+    ensures { λ r. ⌜ (r ≡ true → FieldReady field at) × (FieldReady field at → r ≡ true) ⌝ }
 {
     match field {
         Field::First => at == 0,
@@ -129,12 +131,12 @@ fn field_stands(field: Field, at: usize) -> bool
 }
 
 // Whether the cursor stands in the file, as each cursor does that begin and next_section give for it.
-fn stands(file: &[u8], c: Cursor) -> bool
+fn is_ready(file: &[u8], c: Cursor) -> bool
     ensures { λ r. ⌜ (r ≡ true → Ready (now (file .entry)) c) × (Ready (now (file .entry)) c → r ≡ true) ⌝ }
 {
     let block = c.block;
     let field = c.field;
-    if 1073741824 < file.len() {
+    if FILE_LIMIT < file.len() {
         return false;
     }
     if file.len() < c.at {
@@ -149,14 +151,15 @@ fn stands(file: &[u8], c: Cursor) -> bool
     if file.len() < block.to {
         return false;
     }
-    field_stands(field, c.at)
+    field_is_ready(field, c.at)
 }
 
 // The next section from the cursor on. A cursor of another file may stand nowhere in this one: then there is none.
 pub fn next_section(file: &[u8], c: Cursor, limit: usize) -> NextSection
-    ensures { λ r. ⌜ ((done : F.Tree) → Come limit (now (file .entry)) done c → NextSays limit (now (file .entry)) done r) ⌝ }
+    ensures { λ r. ⌜ ((done : F.Tree) → ReadTo limit (now (file .entry)) done c → NextSays limit (now (file .entry))
+        done r) ⌝ }
 {
-    if !stands(file, c) {
+    if !is_ready(file, c) {
         return NextSection::End;
     }
     section_from(file, c, limit)

@@ -3,7 +3,7 @@
 use mathlib.Core.Path.{_≡_, refl, ap}
 use mathlib.Core.Option.{Option, none, some}
 use mathlib.Core.Bool.{Bool, true, false, cond}
-use mathlib.Core.List.{List, [], _∷_, _++_}
+use mathlib.Core.List.{List, _∷_, _++_}
 use Prim.Native.Nat.{ℕ, _+_, _*_, _≤_, _<_}
 use native.Mathlib.Omega.{arith}
 use borrow.Author.Tests.{le-leb, leb-false}
@@ -12,27 +12,28 @@ use lib.IntN.{ℤ}
 use lib.ListN.{length, take, drop, length-append, length-drop}
 use lib.Seq.{length-take-le}
 use Rattle.cbf_walk.specs.Reading.{Item, Reading, refused, good}
-use Rattle.cbf_walk.specs.Edits.{exchange}
-use Rattle.cbf_pixels.specs.Octets.{pick}
+use Rattle.cbf_walk.specs.Exchange.{exchange}
 use Rattle.cbf_pixels.specs.Pixels.{packByteOffset}
-use Rattle.cbf_pixels.specs.Answers.{Outcome, gives, refuses, octetLimit}
+use Rattle.cbf_answers.specs.Answers.{Outcome, gives, refuses}
+use Rattle.cbf_answers.specs.Limits.{octetLimit, fileLimit}
 use Rattle.cbf_pixels.proofs.Bounds.{packed-bounds}
 use Rattle.cbf_format.specs.declared.Encoding.{Encoding}
 use Rattle.cbf_format.specs.declared.Encoding.the-variants.{Binary, Base64}
 use Rattle.cbf_format.specs.Text.{bytes}
 use Rattle.cbf_format.specs.Descriptions.{Description}
-use Rattle.cbf_format.specs.Sections.{fileLimit, Section, opening, marker}
+use Rattle.cbf_format.specs.Sections.{Section, opening, marker}
 use Rattle.cbf_format.specs.Files.{State, read}
-use Rattle.cbf_format.specs.Listing.{Placed, sections, numbered, printed}
+use Rattle.cbf_format.specs.Listing.{Placed, sections, numbered}
 use Rattle.cbf_format.specs.House.{ended, endedLines, houseLines, house, replacedFile}
 use Rattle.cbf_format.proofs.ListingLaws.{digits-short}
 use Rattle.cbf_format.proofs.PlaceLaws.{read-place}
 use Rattle.cbf_format.proofs.HouseSections.{length-house}
 use Rattle.cbf_format.proofs.ReplacementLaws.{SpanAt, span-at}
-use Rattle.cbf_sections.specs.SectionCalls.{value, orMissing, sectionOf, sectionOutcome}
-use Rattle.cbf_write.specs.Rooms.{roomFor}
+use Rattle.cbf_sections.specs.SectionCalls.{orMissing, sectionNumbered, sectionOutcome}
+use Rattle.cbf_answers.specs.Rooms.{roomFor}
 use Rattle.cbf_replace.specs.HeadTexts.{headText, lineText}
-use Rattle.cbf_replace.specs.ReplaceCalls.{frameFits, roomForFile, replacePacked, replaceFitting, replaceFor, replaceOutcome, newFile, replacedBy}
+use Rattle.cbf_replace.specs.ReplaceCalls.{frameFits, roomForFile, replacePacked, replaceFitting, replaceFor}
+use Rattle.cbf_replace.specs.ReplaceCalls.{replaceOutcome, newFile, replacedBy}
 use Rattle.cbf_replace.proofs.HeadLaws.{no-line, line-length, head-length, type-short}
 
 -- ---- how long the new file is at most
@@ -94,17 +95,16 @@ another : (new : List ℕ) (k p : ℕ) → (k ≡ 15 → ⊥) → Enough new (re
 another new k p h e = let q : k ≡ 15 = cc in absurd (h q)
 
 module _ (new : List ℕ) (room : ℕ) (fits : length new ≤ room) where
-  tested : (b : Bool) (x : Outcome) (k : ℕ) → (k ≡ 15 → ⊥) → Enough new x → Enough new (pick b x (refuses k 0))
-  unfolding pick
+  tested : (b : Bool) (x : Outcome) (k : ℕ) → (k ≡ 15 → ⊥) → Enough new x → Enough new (cond b x (refuses k 0))
   tested true x k h f = f
   tested false x k h f = another new k 0 h
 
   file-enough : Enough new (roomForFile new room)
-  unfolding pick roomForFile roomFor
+  unfolding roomForFile roomFor
   file-enough = go (leb (length new) fileLimit) refl
     where
       go : (b : Bool) → leb (length new) fileLimit ≡ b
-          → Enough new (pick b (cond (leb (length new) room) (gives (length new)) (refuses 15 0)) (refuses 15 0))
+          → Enough new (cond b (cond (leb (length new) room) (gives (length new)) (refuses 15 0)) (refuses 15 0))
       go true q e =
           let g : gives (length new) ≡ refuses 15 0 = rw (le-leb (length new) room fits) at e in
           let z : _≡_ {A = ℕ} 0 1 = cc in absurd (omega arith)
@@ -126,7 +126,7 @@ enough-room limit file n frame room h = go (read limit file) refl
   where
     go : (r : Reading (Item State Section)) → read limit file ≡ r → Enough (replacedBy file r n frame) (replaceOutcome file r n frame room)
     go (refused k p) q =
-        another (newFile file (sectionOf (refused k p) n) frame) k p (λ z. omega (arith, read-place limit file k p q .1))
+        another (newFile file (sectionNumbered (refused k p) n) frame) k p (λ z. omega (arith, read-place limit file k p q .1))
     go (good its) q = by (numbered n (sections 0 its)) refl
       where
         by : (o : Option Placed) → numbered n (sections 0 its) ≡ o

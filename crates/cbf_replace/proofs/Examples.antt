@@ -2,27 +2,28 @@
 use mathlib.Core.Path.{_≡_, refl}
 use mathlib.Core.List.{[], _∷_}
 use lib.IntN.{pos}
-use Rattle.cbf_walk.specs.Edits.{exchange}
+use Rattle.cbf_walk.specs.Exchange.{exchange}
 use Rattle.cbf_walk.specs.Reading.{readF}
-use Rattle.cbf_pixels.specs.Octets as O
 use Rattle.cbf_pixels.specs.Pixels.{packByteOffset, packFrom, packDifference, packBy, widths, within, allWithin}
-use Rattle.cbf_pixels.specs.Answers.{gives}
-use Rattle.cbf_format.specs.Lines.{textLine, lineEnd, octets, word, semicolonLine}
+use Rattle.cbf_answers.specs.Answers.{gives}
+use Rattle.cbf_format.specs.Lines.{textLine, lineEnd, exactly, literal, semicolonLine}
 use Rattle.cbf_format.specs.Headers.{headerLine, headerLines}
-use Rattle.cbf_format.specs.Values.{number}
+use Rattle.cbf_format.specs.Values.{decimalNumber}
 use Rattle.cbf_format.specs.Descriptions.{judge, verdict, headers}
 use Rattle.cbf_format.specs.Sections.{lastBoundary, afterSpan, closed, binaryData, section}
 use Rattle.cbf_format.specs.Files.{due, step, identified, read}
 use Rattle.cbf_format.specs.Listing.{digitsOf, sections, numbered}
 use Rattle.cbf_format.specs.House.{endedLines, houseLines, house, replacedFile}
 use Rattle.cbf_format.proofs.Examples.{sample}
-use Rattle.cbf_write.specs.Rooms.{roomFor}
-use Rattle.cbf_replace.specs.ReplaceCalls.{frameFits, roomForFile, replacePacked, replaceFitting, replaceOutcome, replacedBy}
+use Rattle.cbf_answers.specs.Rooms.{roomFor}
+use Rattle.cbf_replace.specs.ReplaceCalls.{frameFits, roomForFile, replacePacked, replaceFitting}
+use Rattle.cbf_replace.specs.ReplaceCalls.{replaceOutcome, replacedBy}
+use Rattle.cbf_pixels.specs.Octets as O
 
 pub sample-replaced : replacedBy sample (read 80 sample) 1 (pos 5 ∷ pos 205 ∷ []) ≡ sample
-unfolding sample read readF step due textLine lineEnd octets word semicolonLine headerLine headerLines judge verdict headers lastBoundary afterSpan closed binaryData section identified number sections numbered house endedLines houseLines digitsOf replacedFile exchange replacedBy packByteOffset packFrom packDifference packBy widths O.pick O.half O.bits O.octets
+unfolding sample read readF step due textLine lineEnd exactly literal semicolonLine headerLine headerLines judge verdict headers lastBoundary afterSpan closed binaryData section identified decimalNumber sections numbered house endedLines houseLines digitsOf replacedFile exchange replacedBy packByteOffset packFrom packDifference packBy widths O.half O.bits O.octets
 sample-replaced = refl
 
 pub sample-answer : replaceOutcome sample (read 80 sample) 1 (pos 5 ∷ pos 205 ∷ []) 401 ≡ gives 401
-unfolding sample read readF step due textLine lineEnd octets word semicolonLine headerLine headerLines judge verdict headers lastBoundary afterSpan closed binaryData section identified number sections numbered house endedLines houseLines digitsOf replacedFile exchange replaceOutcome replaceFitting replacePacked roomForFile roomFor frameFits within allWithin packByteOffset packFrom packDifference packBy widths O.pick O.half O.bits O.octets
+unfolding sample read readF step due textLine lineEnd exactly literal semicolonLine headerLine headerLines judge verdict headers lastBoundary afterSpan closed binaryData section identified decimalNumber sections numbered house endedLines houseLines digitsOf replacedFile exchange replaceOutcome replaceFitting replacePacked roomForFile roomFor frameFits within allWithin packByteOffset packFrom packDifference packBy widths O.half O.bits O.octets
 sample-answer = refl

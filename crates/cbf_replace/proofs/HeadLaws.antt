@@ -51,9 +51,16 @@ module _ {old : List ℕ} {at : ℕ} {text : List ℕ} where
     next-fits {p} {ps} w =
         omega (arith, w .fits, w .put .0, ap length (w .whole), length-append (w .done) (p ++ joined ps), length-append p (joined ps), written-length w)
 
-    pub written-more : {p : List ℕ} {ps : List (List ℕ)} {s : ℕ} {out : List ℕ} → Written old at text (p ∷ ps) r new → Put new r p s out → Written old at text ps s out
+    pub written-more : {p : List ℕ} {ps : List (List ℕ)} {s : ℕ} {out : List ℕ} → Written old at text (p ∷ ps) r new
+        → Put new r p s out → Written old at text ps s out
     written-more {p} {ps} w q =
-        record { done = w .done ++ p; whole = w .whole ∙ sym (append-assoc (w .done) p (joined ps)); put = put-both old at (w .done) p (w .put) q; fits = w .fits }
+        record {
+          done = w .done ++ p;
+          whole = w .whole ∙ sym (append-assoc (w .done) p (joined ps));
+          put =
+              put-both old at (w .done) p (w .put) q;
+          fits = w .fits;
+        }
 
     pub written-all : Written old at text [] r new → Put old at text r new
     written-all w = rw (w .whole, append-nil (w .done)) (w .put)
@@ -86,7 +93,8 @@ module _ (name : List ℕ) where
   line-first : (o : Option ℕ) (ls : List (List ℕ)) (z : List ℕ) → endedLines (numberLine name o ls) ++ z ≡ lineText name o ++ (endedLines ls ++ z)
   unfolding endedLines
   line-first none ls z = refl
-  line-first (some n) ls z = append-assoc (ended (name ++ printed n)) (endedLines ls) z ∙ ap (λ (l : List ℕ). l ++ (endedLines ls ++ z)) (sym (append-nil (ended (name ++ printed n))))
+  line-first (some n) ls z = append-assoc (ended (name ++ printed n)) (endedLines ls) z ∙ ap (λ (l : List ℕ). l
+      ++ (endedLines ls ++ z)) (sym (append-nil (ended (name ++ printed n))))
 
 -- ---- the pieces of the head
 
@@ -148,7 +156,8 @@ module _ (s : Texts) (t : List ℕ) (size elements : ℕ) (i p q r : Option ℕ)
 
   abbrev pieces : List (List ℕ)
   pieces =
-      start ∷ lineText (s .size-name) (some size) ∷ lineText (s .id-name) i ∷ s .type-start ∷ t ∷ after-type ∷ lineText (s .elements-name) (some elements) ∷ lineText (s .fastest-name) p ∷ lineText (s .second-name) q
+      start ∷ lineText (s .size-name) (some size) ∷ lineText (s .id-name) i ∷ s .type-start ∷ t ∷ after-type ∷
+      lineText (s .elements-name) (some elements) ∷ lineText (s .fastest-name) p ∷ lineText (s .second-name) q
       ∷ lineText (s .third-name) r
       ∷ s .end
       ∷ []
@@ -159,7 +168,8 @@ module _ (s : Texts) (t : List ℕ) (size elements : ℕ) (i p q r : Option ℕ)
       (s .content ∷ s .conversions ∷ s .encoding
       ∷ numberLine (s .size-name) (some size)
       (numberLine (s .id-name) i
-      ((s .type-start ++ (t ++ s .type-end)) ∷ s .order ∷ numberLine (s .elements-name) (some elements) (numberLine (s .fastest-name) p (numberLine (s .second-name) q (numberLine (s .third-name) r []))))))
+      ((s .type-start ++ (t ++ s .type-end)) ∷ s .order ∷ numberLine (s .elements-name) (some elements)
+      (numberLine (s .fastest-name) p (numberLine (s .second-name) q (numberLine (s .third-name) r []))))))
       ++ s .end)
       ≡ joined pieces
   unfolding endedLines
@@ -180,11 +190,14 @@ module _ (s : Texts) (t : List ℕ) (size elements : ℕ) (i p q r : Option ℕ)
       ∙ ap (λ (w : List ℕ). lineText (s .elements-name) (some elements) ++ w)
       (line-first (s .fastest-name) p l3 (s .end)
       ∙ ap (λ (w : List ℕ). lineText (s .fastest-name) p ++ w)
-      (line-first (s .second-name) q (numberLine (s .third-name) r []) (s .end) ∙ ap (λ (w : List ℕ). lineText (s .second-name) q ++ (lineText (s .third-name) r ++ w)) (sym (append-nil (s .end)))))))))
+      (line-first (s .second-name) q (numberLine (s .third-name) r []) (s .end)
+      ∙ ap (λ (w : List ℕ). lineText (s .second-name) q ++ (lineText (s .third-name) r ++ w))
+      (sym (append-nil (s .end)))))))))
 
   pieces-length :
       length (joined pieces)
-      ≡ length start + length (s .size-name) + length (s .type-start) + length after-type + length (s .elements-name) + length (s .end) + 4 + length t + length (printed size) + length (printed elements)
+      ≡ length start + length (s .size-name) + length (s .type-start) + length after-type + length (s .elements-name)
+      + length (s .end) + 4 + length t + length (printed size) + length (printed elements)
       + length (lineText (s .id-name) i)
       + length (lineText (s .fastest-name) p)
       + length (lineText (s .second-name) q)

@@ -8,18 +8,18 @@ use borrow.Author.Tests.{le-leb, lt-leb, eq-eqb, ne-eqb}
 use lib.ListN.{length, take, drop, length-append, length-drop}
 use lib.Seq.{sets, take-all, length-take-le}
 use lib.IntN.{ℤ}
-use Rattle.cbf_pixels.specs.Octets.{pick}
 use Rattle.cbf_pixels.specs.Pixels.{packByteOffset}
-use Rattle.cbf_pixels.specs.Answers.{Outcome, gives, refuses, octetLimit}
-use Rattle.cbf_pixels.specs.Steps.{sizeOf}
-use Rattle.cbf_pixels.specs.declared.measure.Size.the-variants.{Outside, Octets}
-use Rattle.cbf_pixels.proofs.Calls.{measured, outside, all-small}
+use Rattle.cbf_answers.specs.Answers.{Outcome, gives, refuses}
+use Rattle.cbf_answers.specs.Limits.{octetLimit, fileLimit}
+use Rattle.cbf_measure.specs.Measure.{sizeOf}
+use Rattle.cbf_measure.specs.declared.measure.Size.the-variants.{Outside, Octets}
+use Rattle.cbf_pack.proofs.PackingLaws.{measured, outside, all-small}
 use Rattle.cbf_format.specs.declared.Description.{Description}
-use Rattle.cbf_format.specs.Sections.{opening, closing, marker, fileLimit}
+use Rattle.cbf_format.specs.Sections.{opening, closing, marker}
 use Rattle.cbf_format.specs.House.{ended, endedLines, houseLines, house}
-use Rattle.cbf_reader.specs.declared.step.Section.{Section}
-use Rattle.cbf_write.specs.Rooms.{roomFor}
-use Rattle.cbf_write.proofs.RoomLaws.{Says, refusal, no-room, has-room}
+use Rattle.cbf_format.specs.declared.Section.{Section}
+use Rattle.cbf_answers.specs.Rooms.{roomFor}
+use Rattle.cbf_answers.proofs.Rooms.{Says, refusal, no-room, has-room}
 use Rattle.cbf_replace.specs.ReplaceCalls.{frameFits, roomForFile, replacePacked, replaceFitting}
 use Rattle.cbf_replace.specs.HeadTexts.{headText}
 use Rattle.cbf_replace.specs.NewFiles.{fileWith, SpanIn, Packed}
@@ -27,7 +27,8 @@ use Rattle.cbf_replace.proofs.HeadLaws.{joined}
 
 -- ---- pieces
 
--- before the span, the head, the octets, the closing, and what stands behind the span, as the code takes it from the file
+-- before the span, the head, the octets, the closing, and what stands behind the span, as the code takes it from the
+-- file
 abbrev pub filePieces : List ℕ → Section → ℕ → List ℕ → List (List ℕ)
 filePieces file s size os =
     take (s .from) file ∷ headText (s .description) size ∷ os ∷ (13 ∷ 10 ∷ closing) ∷ take (length file - s .to) (drop (s .to) file) ∷ []
@@ -69,16 +70,16 @@ module _ (os new old : List ℕ) where
   SaysPacked said out = Says (replacePacked os new (length old)) new old said out
 
   pub packed-large : octetLimit < length os → SaysPacked (refuses 16 0) old
-  unfolding pick replacePacked
+  unfolding replacePacked
   packed-large h = refusal new old (sym (rw (lt-leb (length os) octetLimit h) refl))
 
   module _ {n : ℕ} (few : length os ≤ octetLimit) (length-is : n ≡ length new) where
     pub packed-long : fileLimit < n → SaysPacked (refuses 15 0) old
-    unfolding pick replacePacked roomForFile
+    unfolding replacePacked roomForFile
     packed-long h = refusal new old (sym (rw (le-leb (length os) octetLimit few, lt-leb (length new) fileLimit (omega arith)) refl))
 
     roomed : n ≤ fileLimit → replacePacked os new (length old) ≡ roomFor new (length old)
-    unfolding pick replacePacked roomForFile
+    unfolding replacePacked roomForFile
     roomed h = rw (le-leb (length os) octetLimit few, le-leb (length new) fileLimit (omega arith)) refl
 
     pub packed-no-room : n ≤ fileLimit → length old < n → SaysPacked (refuses 15 0) old
@@ -93,7 +94,7 @@ module _ (d : Description) (frame : List ℤ) (new old : List ℕ) where
   SaysFitting said out = Says (replaceFitting d frame new (length old)) new old said out
 
   unfit : frameFits d frame ≡ false → SaysFitting (refuses 14 0) old
-  unfolding pick replaceFitting
+  unfolding replaceFitting
   unfit e = refusal new old (sym (rw e refl))
 
   pub wrong-count : (length frame ≡ d .elements → ⊥) → SaysFitting (refuses 14 0) old
@@ -109,5 +110,5 @@ module _ (d : Description) (frame : List ℤ) (new old : List ℕ) where
 
   pub frame-fits : {n : ℕ} {said : Outcome} {out : List ℕ} → length frame ≡ d .elements → Octets n ≡ sizeOf (d .kind) frame
       → SaysPacked (packByteOffset frame) new old said out → SaysFitting said out
-  unfolding pick replaceFitting frameFits
+  unfolding replaceFitting frameFits
   frame-fits {n} e h u = rw (eq-eqb (length frame) (d .elements) e, measured (d .kind) frame old n h .0) u

@@ -2,33 +2,33 @@
 use mathlib.Core.Path.{_≡_, refl, sym, ap, _∙_, subst}
 use mathlib.Core.Option.{Option, none, some}
 use mathlib.Core.List.{List}
-use Prim.Native.Nat.{ℕ, _≤_}
+use Prim.Native.Nat.{ℕ}
 use native.Mathlib.Omega.{arith}
 use lib.ListN.{length}
 use lib.IntN.{ℤ}
 use Rattle.cbf_walk.specs.Reading.{Item, Reading, refused, good}
-use Rattle.cbf_walk.specs.Edits.{exchange}
+use Rattle.cbf_walk.specs.Exchange.{exchange}
 use Rattle.cbf_pixels.specs.Pixels.{packByteOffset}
-use Rattle.cbf_pixels.specs.Answers.{Outcome, refuses}
-use Rattle.cbf_pixels.specs.declared.Refusal.{Refusal}
+use Rattle.cbf_answers.specs.Answers.{Outcome, refuses}
+use Rattle.cbf_answers.specs.declared.Refusal.{Refusal}
 use Rattle.cbf_format.specs.declared.Description.{Description}
 use Rattle.cbf_format.specs.declared.Encoding.{Encoding}
 use Rattle.cbf_format.specs.declared.Encoding.the-variants.{Binary, Base64}
-use Rattle.cbf_format.specs.Sections as S
-use Rattle.cbf_format.specs.Files as F
 use Rattle.cbf_format.specs.Listing.{Placed, sections, numbered}
 use Rattle.cbf_format.specs.House.{replacedFile}
 use Rattle.cbf_format.proofs.ReplacementLaws.{SpanAt, span-at}
-use Rattle.cbf_reader.specs.WalkPlaces.{SectionOf}
-use Rattle.cbf_reader.specs.Surveys.{NumberedSays}
-use Rattle.cbf_reader.specs.declared.step.Section.{Section}
-use Rattle.cbf_reader.specs.declared.survey.Numbered.the-variants as N
-use Rattle.cbf_sections.specs.SectionCalls.{value, orMissing, sectionOf}
+use Rattle.cbf_reader.specs.Walk.{SectionOf}
+use Rattle.cbf_reader.specs.WholeFile.{NumberedSays}
+use Rattle.cbf_format.specs.declared.Section.{Section}
+use Rattle.cbf_sections.specs.SectionCalls.{value, orMissing, sectionNumbered}
 use Rattle.cbf_sections.proofs.SectionCallLaws.{frame-of, section-answer, section-refused}
-use Rattle.cbf_write.proofs.RoomLaws.{Says, refusal}
+use Rattle.cbf_answers.proofs.Rooms.{Says, refusal}
 use Rattle.cbf_replace.specs.ReplaceCalls.{replaceFitting, replaceFor, replaceOutcome, replacedBy}
 use Rattle.cbf_replace.specs.NewFiles.{fileWith, SpanIn}
 use Rattle.cbf_replace.proofs.NewFileLaws.{SaysFitting}
+use Rattle.cbf_format.specs.Sections as S
+use Rattle.cbf_format.specs.Files as F
+use Rattle.cbf_format.specs.declared.Numbered.the-variants as N
 
 -- ---- the section of the code
 
@@ -48,7 +48,7 @@ here {file} {p} {s} i a =
       new = λ os. refl;
     })
 
-section-good : (r : Reading (Item F.State S.Section)) (n : ℕ) (p : Placed) → sectionOf r n ≡ value p
+section-good : (r : Reading (Item F.State S.Section)) (n : ℕ) (p : Placed) → sectionNumbered r n ≡ value p
     → (its : F.Tree) × (r ≡ good its) × (numbered n (sections 0 its) ≡ some p)
 section-good (refused k q) n p e = let z : _≡_ {A = ℕ} 0 1 = cc in absurd (omega arith)
 section-good (good its) n p e = (its, refl, go (numbered n (sections 0 its)) e)
@@ -58,7 +58,7 @@ section-good (good its) n p e = (its, refl, go (numbered n (sections 0 its)) e)
     go (some q) e = let s : q ≡ p = cc in ap some s
 
 pub here-of : (limit n : ℕ) (file : List ℕ) (s : Section) → NumberedSays file n (F.read limit file) (N.As s)
-    → (p : Placed) × (sectionOf (F.read limit file) n ≡ value p) × Here file p s
+    → (p : Placed) × (sectionNumbered (F.read limit file) n ≡ value p) × Here file p s
 here-of limit n file s h =
     let f = frame-of limit n file s h in
     let g = section-good (F.read limit file) n (f .0) (f .1) in
@@ -69,13 +69,14 @@ here-of limit n file s h =
 abbrev pub Replaces : List ℕ → Reading (Item F.State S.Section) → ℕ → List ℤ → List ℕ → Outcome → List ℕ → Type 0
 Replaces file r n frame old said out = Says (replaceOutcome file r n frame (length old)) (replacedBy file r n frame) old said out
 
-pub replace-refused : (file : List ℕ) (n : ℕ) (r : Reading (Item F.State S.Section)) (t : Refusal) (frame : List ℤ) (old : List ℕ) → NumberedSays file n r (N.Refused t)
+pub replace-refused : (file : List ℕ) (n : ℕ) (r : Reading (Item F.State S.Section)) (t : Refusal) (frame : List ℤ)
+    (old : List ℕ) → NumberedSays file n r (N.Refused t)
     → Replaces file r n frame old (refuses (t .number) (t .place)) old
 unfolding replaceOutcome
 replace-refused file n r t frame old h = refusal (replacedBy file r n frame) old (section-refused file n r t _ h)
 
 module _ (file : List ℕ) (r : Reading (Item F.State S.Section)) (n : ℕ) (frame : List ℤ) (old : List ℕ) {p : Placed} {s : Section}
-    (at : sectionOf r n ≡ value p) (h : Here file p s) where
+    (at : sectionNumbered r n ≡ value p) (h : Here file p s) where
   answer : {e : Encoding} → s .description .encoding ≡ e
       → replaceFor e (p .section .description) frame (replacedFile file p (packByteOffset frame)) (length old) ≡ replaceOutcome file r n frame (length old)
   unfolding replaceOutcome
@@ -93,4 +94,5 @@ module _ (file : List ℕ) (r : Reading (Item F.State S.Section)) (n : ℕ) (fra
   replace-binary {said} {out} q u =
       let v = rw (h .new (packByteOffset frame), h .description) at u in
       subst (λ (z : Outcome). Says z (replacedBy file r n frame) old said out) (answer q)
-      (subst (λ (z : List ℕ). Says (replaceFitting (p .section .description) frame (replacedFile file p (packByteOffset frame)) (length old)) z old said out) file-is v)
+      (subst (λ (z : List ℕ). Says (replaceFitting (p .section .description) frame
+      (replacedFile file p (packByteOffset frame)) (length old)) z old said out) file-is v)

@@ -5,10 +5,10 @@ use Prim.Native.Nat.{ℕ, _≤_}
 use lib.ListN.{length, take, drop}
 use lib.IntN.{ℤ}
 use Rattle.cbf_pixels.specs.Pixels.{packByteOffset}
-use Rattle.cbf_pixels.specs.Steps.{AllSmall}
-use Rattle.cbf_format.specs.Sections.{fileLimit}
+use Rattle.cbf_pack.specs.Write.{AllSmall}
+use Rattle.cbf_answers.specs.Limits.{fileLimit, pixelLimit}
 use Rattle.cbf_format.specs.House.{house}
-use Rattle.cbf_reader.specs.declared.step.Section.{Section}
+use Rattle.cbf_format.specs.declared.Section.{Section}
 
 -- the file with the span of the section exchanged for house form with these octets
 unfoldable pub fileWith : List ℕ → Section → List ℕ → List ℕ
@@ -19,7 +19,7 @@ pub record SpanIn (file : List ℕ) (s : Section) : Type 0 where
   pub low : s .from ≤ s .to
   pub inside : s .to ≤ length file
   pub short : length file ≤ fileLimit
-  pub few : s .description .elements ≤ 67108864
+  pub few : s .description .elements ≤ pixelLimit
 
 -- the packed frame has size octets
 pub record Packed (frame : List ℤ) (size : ℕ) : Type 0 where

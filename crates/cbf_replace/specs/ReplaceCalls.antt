@@ -1,23 +1,24 @@
--- What replacement answers, by document 01's numbers: reading's refusal, then "12, 18, 14, 16, 15"; and the file that it gives.
-use mathlib.Core.Bool.{Bool, _&&_}
+-- What replacement answers, by document 01's numbers: reading's refusal, then "12, 18, 14, 16, 15"; and the file that
+-- it gives.
+use mathlib.Core.Bool.{Bool, _&&_, cond}
 use mathlib.Core.List.{List, []}
 use Prim.Native.Nat.{ℕ}
 use lib.Dec.{leb, eqb}
 use lib.ListN.{length}
 use lib.IntN.{ℤ}
 use Rattle.cbf_walk.specs.Reading.{Item, Reading}
-use Rattle.cbf_pixels.specs.Octets.{pick}
 use Rattle.cbf_pixels.specs.Pixels.{least, greatest, allWithin, packByteOffset}
-use Rattle.cbf_pixels.specs.Answers.{Outcome, refuses, octetLimit}
+use Rattle.cbf_answers.specs.Answers.{Outcome, refuses}
+use Rattle.cbf_answers.specs.Limits.{octetLimit, fileLimit}
 use Rattle.cbf_format.specs.declared.Encoding.{Encoding}
 use Rattle.cbf_format.specs.declared.Encoding.the-variants.{Binary, Base64}
 use Rattle.cbf_format.specs.declared.Description.{Description}
-use Rattle.cbf_format.specs.Sections.{fileLimit, Section}
+use Rattle.cbf_format.specs.Sections.{Section}
 use Rattle.cbf_format.specs.Files.{State}
 use Rattle.cbf_format.specs.Listing.{Placed}
 use Rattle.cbf_format.specs.House.{replacedFile}
-use Rattle.cbf_write.specs.Rooms.{roomFor}
-use Rattle.cbf_sections.specs.SectionCalls.{Result, refusal, value, sectionOf, sectionOutcome}
+use Rattle.cbf_answers.specs.Rooms.{roomFor}
+use Rattle.cbf_sections.specs.SectionCalls.{Result, refusal, value, sectionNumbered, sectionOutcome}
 
 -- "Fits: as many pixels as elements, each inside the integer type"
 unfoldable pub frameFits : Description → List ℤ → Bool
@@ -25,18 +26,18 @@ frameFits d frame = eqb (length frame) (d .elements) && allWithin (least (d .kin
 
 -- 15: "lent output shorter than the answer, or result file too long"
 unfoldable pub roomForFile : List ℕ → ℕ → Outcome
-unfolding pick roomFor
-roomForFile new room = pick (leb (length new) fileLimit) (roomFor new room) (refuses 15 0)
+unfolding roomFor
+roomForFile new room = cond (leb (length new) fileLimit) (roomFor new room) (refuses 15 0)
 
 -- 16: "packed frame over 1,073,741,824 octets"
 unfoldable pub replacePacked : List ℕ → List ℕ → ℕ → Outcome
-unfolding pick roomForFile
-replacePacked os new room = pick (leb (length os) octetLimit) (roomForFile new room) (refuses 16 0)
+unfolding roomForFile
+replacePacked os new room = cond (leb (length os) octetLimit) (roomForFile new room) (refuses 16 0)
 
 -- 14: "new frame of wrong count .. or a pixel outside the type"
 unfoldable pub replaceFitting : Description → List ℤ → List ℕ → ℕ → Outcome
-unfolding pick frameFits replacePacked
-replaceFitting d frame new room = pick (frameFits d frame) (replacePacked (packByteOffset frame) new room) (refuses 14 0)
+unfolding frameFits replacePacked
+replaceFitting d frame new room = cond (frameFits d frame) (replacePacked (packByteOffset frame) new room) (refuses 14 0)
 
 -- 18: "replacement asked of a BASE64 section"
 abbrev pub replaceFor : Encoding → Description → List ℤ → List ℕ → ℕ → Outcome
@@ -45,7 +46,7 @@ replaceFor Base64 d frame new room = refuses 18 0
 
 unfoldable pub replaceOutcome : List ℕ → Reading (Item State Section) → ℕ → List ℤ → ℕ → Outcome
 replaceOutcome file r n frame room =
-    sectionOutcome (sectionOf r n) (λ p.
+    sectionOutcome (sectionNumbered r n) (λ p.
     let d = p .section .description in replaceFor (d .encoding) d frame (replacedFile file p (packByteOffset frame)) room)
 
 abbrev pub newFile : List ℕ → Result Placed → List ℤ → List ℕ
@@ -54,4 +55,4 @@ newFile file (value p) frame = replacedFile file p (packByteOffset frame)
 
 -- the file with the section's span in house form with the frame
 unfoldable pub replacedBy : List ℕ → Reading (Item State Section) → ℕ → List ℤ → List ℕ
-replacedBy file r n frame = newFile file (sectionOf r n) frame
+replacedBy file r n frame = newFile file (sectionNumbered r n) frame

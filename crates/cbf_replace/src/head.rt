@@ -1,4 +1,5 @@
-// The head of a section in house form: its opening boundary, headers, empty line and marker. Measured and written by the same pieces.
+// The head of a section in house form: its opening boundary, headers, empty line and marker. Measured and written by
+// the same pieces.
 use cbf_format::Description;
 use cbf_pixels::ElementType;
 ghost use mathlib.Core.Path.{_≡_};
@@ -76,8 +77,8 @@ pub fn head_length(d: Description, size: u64) -> usize
     ensures { λ r. ⌜ (r ≡ length (headText d size)) × (r ≤ 1000) ⌝ }
 {
     let kind = d.kind;
-    // 270 bytes are the same in every head: opening, content type, encoding, what stands around the element type, byte order, the names of
-    // size and elements with their line ends, the empty line and the marker
+    // 270 bytes are the same in every head: opening, content type, encoding, what stands around the element type,
+    // byte order, the names of size and elements with their line ends, the empty line and the marker
     let numbers = cbf_write::digit_count(size) + cbf_write::digit_count(d.elements);
     let id = optional_length(b"X-Binary-ID: ", d.id);
     let fastest = optional_length(b"X-Binary-Size-Fastest-Dimension: ", d.fastest);

@@ -1,30 +1,30 @@
 // The new file: what stands before the span, the span in house form, what stands after it.
 use crate::head;
-use cbf_pixels::Answer;
-use cbf_pixels::Refusal;
-use cbf_reader::Section;
+use cbf_answers::Answer;
+use cbf_answers::FILE_LIMIT;
+use cbf_answers::Refusal;
+use cbf_format::Section;
 ghost use mathlib.Core.Path.{_≡_};
 ghost use Prim.Native.Nat.{_≤_};
 ghost use lib.ListN.{length};
 ghost use lib.Seq.{sets};
 ghost use Rattle.cbf_pixels.specs.Pixels.{packByteOffset};
-ghost use Rattle.cbf_pixels.specs.Answers.{outcome, written};
+ghost use Rattle.cbf_answers.specs.Answers.{outcome, written};
 ghost use Rattle.cbf_replace.specs.ReplaceCalls.{replacePacked};
 ghost use Rattle.cbf_replace.specs.NewFiles.{fileWith, SpanIn, Packed};
 
-// "File and result file: at most 1,073,741,824 bytes", and a packed frame too.
-const FILE_LIMIT: usize = 1073741824;
-
 // Writes the new file, each byte once.
 fn put_file(file: &[u8], s: Section, size: usize, frame: &[i64], out: &mut [u8])
-    requires { ⌜ SpanIn (now file) s × Packed (now frame) size × (length (fileWith (now file) s (packByteOffset (now frame))) ≤ length (now out)) ⌝ }
-    ensures { λ _. ⌜ now (out .exit) ≡ sets (now (out .entry)) 0 (fileWith (now (file .entry)) s (packByteOffset (now (frame .entry)))) ⌝ }
+    requires { ⌜ SpanIn (now file) s × Packed (now frame) size
+        × (length (fileWith (now file) s (packByteOffset (now frame))) ≤ length (now out)) ⌝ }
+    ensures { λ _. ⌜ now (out .exit) ≡ sets (now (out .entry)) 0 (fileWith (now (file .entry)) s
+        (packByteOffset (now (frame .entry)))) ⌝ }
 {
     let from = s.from;
     let to = s.to;
     let boundary = cbf_write::copy(out, 0, &file[..from]);
     let first = head::put_head(out, boundary, s.description, size as u64);
-    let after = cbf_pixels::write_octets(frame, out, first);
+    let after = cbf_pack::write_octets(frame, out, first);
     let end = cbf_write::put_text(out, after, b"\r\n--CIF-BINARY-FORMAT-SECTION----");
     cbf_write::copy(out, end, &file[to..]);
 }
@@ -32,8 +32,11 @@ fn put_file(file: &[u8], s: Section, size: usize, frame: &[i64], out: &mut [u8])
 // Answers for a frame that fits, whose size is known: 16, 15, or the length of the new file, which is written.
 pub fn replace_packed(file: &[u8], s: Section, size: usize, frame: &[i64], out: &mut [u8]) -> Answer
     requires { ⌜ SpanIn (now file) s × Packed (now frame) size ⌝ }
-    ensures answer { λ r. ⌜ outcome r ≡ replacePacked (packByteOffset (now (frame .entry))) (fileWith (now (file .entry)) s (packByteOffset (now (frame .entry)))) (length (now (out .entry))) ⌝ }
-    ensures output { λ _. ⌜ now (out .exit) ≡ written (replacePacked (packByteOffset (now (frame .entry))) (fileWith (now (file .entry)) s (packByteOffset (now (frame .entry)))) (length (now (out .entry)))) (fileWith (now (file .entry)) s (packByteOffset (now (frame .entry)))) (now (out .entry)) ⌝ }
+    ensures answer { λ r. ⌜ outcome r ≡ replacePacked (packByteOffset (now (frame .entry)))
+        (fileWith (now (file .entry)) s (packByteOffset (now (frame .entry)))) (length (now (out .entry))) ⌝ }
+    ensures output { λ _. ⌜ now (out .exit) ≡ written (replacePacked (packByteOffset (now (frame .entry)))
+        (fileWith (now (file .entry)) s (packByteOffset (now (frame .entry)))) (length (now (out .entry))))
+        (fileWith (now (file .entry)) s (packByteOffset (now (frame .entry)))) (now (out .entry)) ⌝ }
 {
     if FILE_LIMIT < size {
         return Answer::Refused(Refusal {

@@ -1,19 +1,20 @@
--- Room for as many pixels as the file has bytes is always enough for unpacking: 15 is then not answered. Assumes nothing.
-use mathlib.Core.Path.{_≡_, refl, ap}
+-- Room for as many pixels as the file has bytes is always enough for unpacking: 15 is then not answered. Assumes
+-- nothing.
+use mathlib.Core.Path.{_≡_, refl}
 use mathlib.Core.Logic.{_≢_}
 use mathlib.Core.Option.{Option, none, some}
-use mathlib.Core.Bool.{Bool, true, false}
+use mathlib.Core.Bool.{Bool, true, false, cond}
 use mathlib.Core.List.{List, [], _∷_}
 use Prim.Native.Nat.{ℕ, suc, _+_, _-_, _*_, _≤_}
 use native.Mathlib.Omega.{arith}
 use borrow.Author.Tests.{leb-true, le-leb, eqb-true}
 use lib.Dec.{leb}
-use lib.ListN.{length, length-append}
+use lib.ListN.{length}
 use lib.Seq.{slice, length-slice}
 use Rattle.cbf_walk.specs.Reading.{Item, Reading, refused, good}
-use Rattle.cbf_pixels.specs.Octets.{pick}
 use Rattle.cbf_pixels.specs.Uncompressed.{octetsPer}
-use Rattle.cbf_pixels.specs.Answers.{Outcome, gives, refuses, isSome}
+use Rattle.cbf_answers.specs.Answers.{gives, refuses}
+use Rattle.cbf_pixels.specs.PixelCalls.{isSome}
 use Rattle.cbf_pixels.specs.declared.ElementType.{ElementType}
 use Rattle.cbf_pixels.specs.declared.ElementType.the-variants.{U8, S8, U16, S16, U32, S32}
 use Rattle.cbf_pixels.specs.declared.Compression.{Compression}
@@ -24,8 +25,6 @@ use Rattle.cbf_format.specs.declared.Encoding.{Encoding}
 use Rattle.cbf_format.specs.declared.Encoding.the-variants.{Binary, Base64}
 use Rattle.cbf_format.specs.Base64.{symbol}
 use Rattle.cbf_format.specs.Descriptions.{sizeAgrees}
-use Rattle.cbf_format.specs.Sections as S
-use Rattle.cbf_format.specs.Files as F
 use Rattle.cbf_format.specs.Listing.{Placed, sections, numbered, position}
 use Rattle.cbf_format.proofs.LineTame.{and-true}
 use Rattle.cbf_format.proofs.VerdictLaws.{size-agrees}
@@ -33,9 +32,11 @@ use Rattle.cbf_format.proofs.PlaceLaws.{read-place}
 use Rattle.cbf_format.proofs.OctetLaws.{DataAt, data-at, binary-octets}
 use Rattle.cbf_format.proofs.ReplacementLaws.{SpanAt, span-at}
 use Rattle.cbf_text.specs.Letters.{addSix, sixes, joined}
-use Rattle.cbf_text.specs.Texts.{TextOf}
 use Rattle.cbf_text.proofs.SectionTexts.{text-of}
-use Rattle.cbf_sections.specs.SectionCalls.{orMissing, sectionOf, sectionOutcome, frameOf, frameFor, frameOutcome}
+use Rattle.cbf_sections.specs.SectionCalls.{orMissing, sectionNumbered, sectionOutcome, frameOf, frameFor}
+use Rattle.cbf_sections.specs.SectionCalls.{frameOutcome}
+use Rattle.cbf_format.specs.Sections as S
+use Rattle.cbf_format.specs.Files as F
 
 -- ---- a section has no more elements than octets
 
@@ -106,18 +107,18 @@ never k p h e = let q : k ≡ 15 = cc in h q
 
 pub enough-room : (limit : ℕ) (file : List ℕ) (n room : ℕ) → length file ≤ room
     → frameOutcome (F.read limit file) n room ≢ refuses 15 0
-unfolding frameOutcome pick
+unfolding frameOutcome
 enough-room limit file n room h = go (F.read limit file) refl
   where
     for : (k at : ℕ) → k ≤ room → (a : Bool)
-        → pick a (pick (leb k room) (gives k) (refuses 15 0)) (refuses 13 at) ≢ refuses 15 0
+        → cond a (cond (leb k room) (gives k) (refuses 15 0)) (refuses 13 at) ≢ refuses 15 0
     for k at few true e =
         let g : gives k ≡ refuses 15 0 = rw (le-leb k room few) at e in
         let z : _≡_ {A = ℕ} 0 1 = cc in absurd (omega arith)
     for k at few false e = never 13 at (λ z. omega arith) e
 
     go : (r : Reading (Item F.State S.Section)) → F.read limit file ≡ r
-        → sectionOutcome (sectionOf r n) (λ p. frameFor p room) ≢ refuses 15 0
+        → sectionOutcome (sectionNumbered r n) (λ p. frameFor p room) ≢ refuses 15 0
     go (refused k p) q e = never k p (λ z. omega (arith, read-place limit file k p q .1)) e
     go (good its) q e = by (numbered n (sections 0 its)) refl e
       where

@@ -1,7 +1,8 @@
--- A file's section with a number: from what the reader says of it to what the calls answer, and where its octets are. Assumes nothing.
+-- A file's section with a number: from what the reader says of it to what the calls answer, and where its octets are.
+-- Assumes nothing.
 use mathlib.Core.Path.{_≡_, refl, sym, ap, _∙_, subst}
 use mathlib.Core.Option.{Option, none, some}
-use mathlib.Core.Bool.{Bool, true, false}
+use mathlib.Core.Bool.{Bool, true, false, cond}
 use mathlib.Core.List.{List, []}
 use Prim.Native.Nat.{ℕ, _+_, _-_, _*_, _≤_}
 use native.Mathlib.Omega.{arith}
@@ -10,33 +11,36 @@ use lib.Dec.{leb, eqb}
 use lib.IntN.{ℤ}
 use lib.ListN.{length, take, drop}
 use lib.Seq.{slice}
+use Rattle.cbf_answers.specs.Limits.{pixelLimit}
 use Rattle.cbf_walk.specs.Reading.{Item, Reading, refused, good}
-use Rattle.cbf_pixels.specs.Octets.{pick}
 use Rattle.cbf_pixels.specs.Uncompressed.{octetsPer}
-use Rattle.cbf_pixels.specs.Answers.{Outcome, gives, refuses, written, isSome, pixelsOf, unpackPixels, unpackOutcome, unpackOutput}
+use Rattle.cbf_answers.specs.Answers.{Outcome, gives, refuses, written}
+use Rattle.cbf_pixels.specs.PixelCalls.{isSome, pixelsOf, unpackPixels, unpackOutcome, unpackOutput}
 use Rattle.cbf_pixels.specs.declared.Compression.the-variants.{Uncompressed}
-use Rattle.cbf_pixels.specs.declared.Refusal.{Refusal}
+use Rattle.cbf_answers.specs.declared.Refusal.{Refusal}
 use Rattle.cbf_format.specs.declared.Encoding.{Encoding}
 use Rattle.cbf_format.specs.declared.Encoding.the-variants.{Binary, Base64}
-use Rattle.cbf_format.specs.Sections as S
-use Rattle.cbf_format.specs.Files as F
 use Rattle.cbf_format.specs.Listing.{Placed, sections, numbered, position}
 use Rattle.cbf_format.proofs.OctetLaws.{DataAt, data-at, binary-octets, octet-count, few-elements, whole-elements}
-use Rattle.cbf_reader.specs.Surveys.{countOf, NumberedIs, NumberedSays}
-use Rattle.cbf_reader.specs.StepPlaces.{sectionAt}
-use Rattle.cbf_reader.specs.WalkPlaces.{SectionOf}
-use Rattle.cbf_reader.specs.declared.step.Section.{Section}
-use Rattle.cbf_reader.specs.declared.survey.Count.{Count}
-use Rattle.cbf_reader.specs.declared.survey.Count.the-variants as C
-use Rattle.cbf_reader.specs.declared.survey.Numbered.{Numbered}
-use Rattle.cbf_reader.specs.declared.survey.Numbered.the-variants as N
+use Rattle.cbf_reader.specs.WholeFile.{countOf, NumberedIs, NumberedSays}
+use Rattle.cbf_reader.specs.Step.{sectionAt}
+use Rattle.cbf_reader.specs.Walk.{SectionOf}
+use Rattle.cbf_format.specs.declared.Section.{Section}
+use Rattle.cbf_reader.specs.declared.whole_file.Count.{Count}
+use Rattle.cbf_format.specs.declared.Numbered.{Numbered}
 use Rattle.cbf_text.specs.Texts.{GoodText, textOctets, TextOf}
-use Rattle.cbf_sections.specs.SectionCalls.{readOutcome, Result, refusal, value, orMissing, sectionOf, ofSection, sectionOutcome}
-use Rattle.cbf_sections.specs.SectionCalls.{numberedFields, fieldsOf, sectionFields, placedAt, frameOf, frameFor, frameOutcome, framePixels}
-use Rattle.cbf_sections.specs.SectionCalls.{Octets, octetsFor, octetsIn, octetsOf, Place, octetsPlace, octetsOutcome, octetsPart}
+use Rattle.cbf_sections.specs.SectionCalls.{readOutcome, Result, refusal, value, orMissing, sectionNumbered}
+use Rattle.cbf_sections.specs.SectionCalls.{ofSection, sectionOutcome, numberedFields, fieldsOf, sectionFields}
+use Rattle.cbf_sections.specs.SectionCalls.{placedAt, frameOf, frameFor, frameOutcome, framePixels}
+use Rattle.cbf_sections.specs.SectionCalls.{OctetsAnswer, octetsFor, octetsIn, octetsOf, Place, octetsPlace}
+use Rattle.cbf_sections.specs.SectionCalls.{octetsOutcome, octetsPart}
 use Rattle.cbf_sections.specs.FramePlaces.{FrameOf}
 use Rattle.cbf_format.proofs.Slices.{slice-part}
 use Rattle.cbf_text.proofs.SectionTexts.{text-of}
+use Rattle.cbf_format.specs.Sections as S
+use Rattle.cbf_format.specs.Files as F
+use Rattle.cbf_reader.specs.declared.whole_file.Count.the-variants as C
+use Rattle.cbf_format.specs.declared.Numbered.the-variants as N
 
 -- ---- how many sections
 
@@ -131,7 +135,7 @@ module _ (limit n : ℕ) (file : List ℕ) where
   unfolding octetsOf
   part-at = go (F.read limit file) refl
     where
-      Holds : Result Octets → Type 0
+      Holds : Result OctetsAnswer → Type 0
       Holds o = PartFor file (octetsPart o) (octetsPlace o)
 
       for : (p : Placed) (e : Encoding) → p .section .description .encoding ≡ e → DataAt limit file p
@@ -159,7 +163,7 @@ abbrev pub placeOutcome : Result Place → Outcome
 placeOutcome (refusal k p) = refuses k p
 placeOutcome (value a) = gives (a .count)
 
-pub place-outcome : (o : Result Octets) → placeOutcome (octetsPlace o) ≡ octetsOutcome o
+pub place-outcome : (o : Result OctetsAnswer) → placeOutcome (octetsPlace o) ≡ octetsOutcome o
 place-outcome (refusal k p) = refl
 place-outcome (value o) = refl
 
@@ -177,11 +181,11 @@ frame {p} d h =
 
 -- the code's section of an accepted file has the octets of the file's
 pub frame-of : (limit n : ℕ) (file : List ℕ) (s : Section) → NumberedSays file n (F.read limit file) (N.As s)
-    → (p : Placed) × (sectionOf (F.read limit file) n ≡ value p) × FrameOf file p s
+    → (p : Placed) × (sectionNumbered (F.read limit file) n ≡ value p) × FrameOf file p s
 frame-of limit n file s h = go (F.read limit file) refl h
   where
     go : (r : Reading (Item F.State S.Section)) → F.read limit file ≡ r → NumberedSays file n r (N.As s)
-        → (p : Placed) × (sectionOf r n ≡ value p) × FrameOf file p s
+        → (p : Placed) × (sectionNumbered r n ≡ value p) × FrameOf file p s
     go (refused k q) e h = let z : _≡_ {A = ℕ} 0 1 = cc in absurd (omega arith)
     go (good its) e h = by (numbered n (sections 0 its)) refl h
       where
@@ -199,19 +203,21 @@ pub record TextFor (file octets : List ℕ) (s : Section) : Type 0 where
       × (s .to - 31 ≤ length file)
       × GoodText file (s .first) (s .to - 31)
       × (s .description .size ≤ length (textOctets file (s .first) (s .to - 31)))
-      × (s .description .elements ≤ 67108864)
+      × (s .description .elements ≤ pixelLimit)
       × (s .description .compression ≡ Uncompressed → s .description .size ≡ s .description .elements * octetsPer (s .description .kind))
   pub is : take (s .description .size) (textOctets file (s .first) (s .to - 31)) ≡ octets
 
 module _ {file : List ℕ} {p : Placed} {s : Section} (f : FrameOf file p s) where
   pub frame-binary : s .description .encoding ≡ Binary → PartAt file (p .section .octets) (s .first) (s .first + s .description .size)
   frame-binary =
-      subst (λ (z : Section). z .description .encoding ≡ Binary → PartAt file (p .section .octets) (z .first) (z .first + z .description .size)) (sym (f .is .fields))
+      subst (λ (z : Section). z .description .encoding ≡ Binary → PartAt file (p .section .octets) (z .first)
+      (z .first + z .description .size)) (sym (f .is .fields))
       (λ e. let b = f .binary e in record { low = omega arith; high = b .inside; is = sym (b .octets) })
 
   pub frame-text : s .description .encoding ≡ Base64 → TextFor file (p .section .octets) s
   frame-text =
-      subst (λ (z : Section). z .description .encoding ≡ Base64 → TextFor file (p .section .octets) z) (sym (f .is .fields)) (λ e. go (f .base64 e .0) (f .base64 e .1))
+      subst (λ (z : Section). z .description .encoding ≡ Base64 → TextFor file (p .section .octets) z)
+      (sym (f .is .fields)) (λ e. go (f .base64 e .0) (f .base64 e .1))
     where
       go : (to : ℕ) → TextOf file p to → TextFor file (p .section .octets) (sectionAt (p .boundary) (s .block) (p .section))
       go to i =
@@ -232,7 +238,8 @@ abbrev pixelsFor : Section → List ℕ → List ℤ
 pixelsFor s os = pixelsOf (unpackPixels (s .description .compression) (s .description .kind) (s .description .elements) os)
 
 -- what was said of octets that are the section's
-pub said-of : {file : List ℕ} {s : Section} {os : List ℕ} {o : Outcome} (old : List ℤ) {new : List ℤ} → ((p : Placed) → FrameOf file p s → os ≡ p .section .octets)
+pub said-of : {file : List ℕ} {s : Section} {os : List ℕ} {o : Outcome} (old : List ℤ) {new : List ℤ}
+    → ((p : Placed) → FrameOf file p s → os ≡ p .section .octets)
     → (o ≡ answerFor s os (length old))
     × (new ≡ outputFor s os old)
     → ((p : Placed) → FrameOf file p s → o ≡ answerFor s (p .section .octets) (length old))
@@ -245,7 +252,7 @@ section-answer p f e = ap (λ (x : Result Placed). sectionOutcome x f) e
 
 -- and where there is none
 pub section-refused : (file : List ℕ) (n : ℕ) (r : Reading (Item F.State S.Section)) (t : Refusal) (f : Placed → Outcome)
-    → NumberedSays file n r (N.Refused t) → refuses (t .number) (t .place) ≡ sectionOutcome (sectionOf r n) f
+    → NumberedSays file n r (N.Refused t) → refuses (t .number) (t .place) ≡ sectionOutcome (sectionNumbered r n) f
 section-refused file n (refused k p) t f e = cc
 section-refused file n (good its) t f e = go (numbered n (sections 0 its)) e
   where
@@ -255,36 +262,35 @@ section-refused file n (good its) t f e = go (numbered n (sections 0 its)) e
 
 -- 13 is placed, and nothing else is
 pub placed-13 : (first : ℕ) (t : Refusal) → t .number ≡ 13 → refuses 13 first ≡ placedAt first (refuses (t .number) (t .place))
-unfolding pick
 placed-13 first t e = rw e
 
 pub placed-other : (first : ℕ) (t : Refusal) → (t .number ≡ 13 → ⊥) → refuses (t .number) (t .place) ≡ placedAt first (refuses (t .number) (t .place))
-unfolding pick
 placed-other first t e = rw (ne-eqb (t .number) 13 e)
 
 -- which changes nothing of what is written
 written-placed : (first : ℕ) (o : Outcome) (new old : List ℤ) → written (placedAt first o) new old ≡ written o new old
-unfolding written pick
+unfolding written
 written-placed first (gives n) new old = refl
 written-placed first (refuses k p) new old = go (eqb k 13)
   where
-    go : (b : Bool) → written (pick b (refuses k first) (refuses k p)) new old ≡ old
+    go : (b : Bool) → written (cond b (refuses k first) (refuses k p)) new old ≡ old
     go true = refl
     go false = refl
 
 -- the answer for octets alone, with 13 at the first of them, is the frame's
-unpack-placed : (p : Placed) (room : ℕ) → p .section .description .elements ≤ 67108864
+unpack-placed : (p : Placed) (room : ℕ) → p .section .description .elements ≤ pixelLimit
     → let d = p .section .description in
     placedAt (position p) (unpackOutcome (d .compression) (d .kind) (d .elements) (p .section .octets) room) ≡ frameFor p room
-unfolding pick unpackOutcome frameOf
+unfolding unpackOutcome frameOf
 unpack-placed p room few =
     let d = p .section .description in
-    rw (le-leb n 67108864 few) (go (isSome (unpackPixels (d .compression) (d .kind) n (p .section .octets))) (leb n room))
+    rw (le-leb n pixelLimit few) (go (isSome (unpackPixels (d .compression) (d .kind) n (p .section .octets))) (leb n room))
   where
     n : ℕ
     n = p .section .description .elements
 
-    go : (a b : Bool) → placedAt (position p) (pick a (pick b (gives n) (refuses 15 0)) (refuses 13 0)) ≡ pick a (pick b (gives n) (refuses 15 0)) (refuses 13 (position p))
+    go : (a b : Bool) → placedAt (position p) (cond a (cond b (gives n) (refuses 15 0)) (refuses 13 0))
+        ≡ cond a (cond b (gives n) (refuses 15 0)) (refuses 13 (position p))
     go true true = refl
     go true false = refl
     go false b = refl
@@ -298,7 +304,7 @@ pub frame-refused : (file : List ℕ) (n : ℕ) (r : Reading (Item F.State S.Sec
 unfolding frameOutcome written
 frame-refused file n r t old h = let e = section-refused file n r t (λ p. frameFor p (length old)) h in (e, rw (← e))
 
-module _ (limit n : ℕ) (file : List ℕ) {p : Placed} {s : Section} (here : sectionOf (F.read limit file) n ≡ value p)
+module _ (limit n : ℕ) (file : List ℕ) {p : Placed} {s : Section} (here : sectionNumbered (F.read limit file) n ≡ value p)
     (f : FrameOf file p s) where
   frame-answer : (room : ℕ) → placedAt (s .first) (answerFor s (p .section .octets) room)
       ≡ frameOutcome (F.read limit file) n room

@@ -1,4 +1,5 @@
 -- What the calls that count a file's sections or ask for one of them answer, by document 01's numbers.
+use mathlib.Core.Bool.{cond}
 use mathlib.Core.Option.{Option, none, some}
 use mathlib.Core.List.{List, []}
 use Prim.Native.Nat.{ℕ, _+_}
@@ -7,17 +8,17 @@ use lib.ListN.{length}
 use lib.Seq.{slice}
 use lib.IntN.{ℤ}
 use Rattle.cbf_walk.specs.Reading.{Item, Reading, refused, good}
-use Rattle.cbf_pixels.specs.Octets.{pick}
-use Rattle.cbf_pixels.specs.Answers.{Outcome, gives, refuses, isSome, pixelsOf, unpackPixels}
+use Rattle.cbf_answers.specs.Answers.{Outcome, gives, refuses}
+use Rattle.cbf_pixels.specs.PixelCalls.{isSome, pixelsOf, unpackPixels}
 use Rattle.cbf_format.specs.declared.Encoding.{Encoding}
 use Rattle.cbf_format.specs.declared.Encoding.the-variants.{Binary, Base64}
-use Rattle.cbf_format.specs.Sections as S
-use Rattle.cbf_format.specs.Files as F
 use Rattle.cbf_format.specs.Listing.{Placed, sections, numbered, position}
 use Rattle.cbf_format.specs.declared.Description.{Description}
-use Rattle.cbf_reader.specs.declared.survey.Numbered.{Numbered}
-use Rattle.cbf_reader.specs.declared.survey.Numbered.the-variants as N
+use Rattle.cbf_format.specs.declared.Numbered.{Numbered}
 use Rattle.cbf_sections.specs.declared.section_calls.OctetsPlace.{OctetsPlace}
+use Rattle.cbf_format.specs.Sections as S
+use Rattle.cbf_format.specs.Files as F
+use Rattle.cbf_format.specs.declared.Numbered.the-variants as N
 use Rattle.cbf_sections.specs.declared.section_calls.OctetsPlace.the-variants as O
 
 -- the number of sections, or reading's refusal
@@ -38,9 +39,9 @@ orMissing none = refusal 12 0
 orMissing (some p) = value p
 
 -- "Every call on a file reads it first"
-abbrev pub sectionOf : Reading (Item F.State S.Section) → ℕ → Result Placed
-sectionOf (refused k p) n = refusal k p
-sectionOf (good its) n = orMissing (numbered n (sections 0 its))
+abbrev pub sectionNumbered : Reading (Item F.State S.Section) → ℕ → Result Placed
+sectionNumbered (refused k p) n = refusal k p
+sectionNumbered (good its) n = orMissing (numbered n (sections 0 its))
 
 -- what a call gives for a section, or the refusal that there is none
 abbrev pub ofSection : {A : Type 0} → Result Placed → (Placed → Result A) → Result A
@@ -85,41 +86,41 @@ fieldsOf p =
     }
 
 unfoldable pub sectionFields : Reading (Item F.State S.Section) → ℕ → Result Fields
-sectionFields r n = ofSection (sectionOf r n) (λ p. value (fieldsOf p))
+sectionFields r n = ofSection (sectionNumbered r n) (λ p. value (fieldsOf p))
 
 -- ---- octets: "12, 18"
 
 -- where the octets of a section start, and the octets
-pub record Octets : Type 0 where
+pub record OctetsAnswer : Type 0 where
   pub start : ℕ
   pub octets : List ℕ
 
 -- 18: "octets .. asked of a BASE64 section"
-abbrev pub octetsFor : Encoding → ℕ → List ℕ → Result Octets
+abbrev pub octetsFor : Encoding → ℕ → List ℕ → Result OctetsAnswer
 octetsFor Binary start os = value (record { start = start; octets = os })
 octetsFor Base64 start os = refusal 18 0
 
-abbrev pub octetsIn : Placed → Result Octets
+abbrev pub octetsIn : Placed → Result OctetsAnswer
 octetsIn p = octetsFor (p .section .description .encoding) (position p) (p .section .octets)
 
-unfoldable pub octetsOf : Reading (Item F.State S.Section) → ℕ → Result Octets
-octetsOf r n = ofSection (sectionOf r n) octetsIn
+unfoldable pub octetsOf : Reading (Item F.State S.Section) → ℕ → Result OctetsAnswer
+octetsOf r n = ofSection (sectionNumbered r n) octetsIn
 
--- of these: where they start and how many they are; how many they are; and the octets themselves, "an empty part where a
--- part is returned"
+-- of these: where they start and how many they are; how many they are; and the octets themselves, "an empty part
+-- where a part is returned"
 pub record Place : Type 0 where
   pub start : ℕ
   pub count : ℕ
 
-abbrev pub octetsPlace : Result Octets → Result Place
+abbrev pub octetsPlace : Result OctetsAnswer → Result Place
 octetsPlace (refusal k p) = refusal k p
 octetsPlace (value o) = value (record { start = o .start; count = length (o .octets) })
 
-abbrev pub octetsOutcome : Result Octets → Outcome
+abbrev pub octetsOutcome : Result OctetsAnswer → Outcome
 octetsOutcome (refusal k p) = refuses k p
 octetsOutcome (value o) = gives (length (o .octets))
 
-abbrev pub octetsPart : Result Octets → List ℕ
+abbrev pub octetsPart : Result OctetsAnswer → List ℕ
 octetsPart (refusal k p) = []
 octetsPart (value o) = o .octets
 
@@ -139,20 +140,19 @@ frameOf p =
 abbrev pub frameFor : Placed → ℕ → Outcome
 frameFor p room =
     let n = p .section .description .elements in
-    pick (isSome (frameOf p)) (pick (leb n room) (gives n) (refuses 15 0)) (refuses 13 (position p))
+    cond (isSome (frameOf p)) (cond (leb n room) (gives n) (refuses 15 0)) (refuses 13 (position p))
 
 unfoldable pub frameOutcome : Reading (Item F.State S.Section) → ℕ → ℕ → Outcome
-unfolding pick
-frameOutcome r n room = sectionOutcome (sectionOf r n) (λ p. frameFor p room)
+frameOutcome r n room = sectionOutcome (sectionNumbered r n) (λ p. frameFor p room)
 
 abbrev pub pixelsIn : Result Placed → List ℤ
 pixelsIn (refusal k p) = []
 pixelsIn (value p) = pixelsOf (frameOf p)
 
 unfoldable pub framePixels : Reading (Item F.State S.Section) → ℕ → List ℤ
-framePixels r n = pixelsIn (sectionOf r n)
+framePixels r n = pixelsIn (sectionNumbered r n)
 
 -- the answer of unpacking octets alone, with 13 at the section's first octet
 abbrev pub placedAt : ℕ → Outcome → Outcome
 placedAt first (gives n) = gives n
-placedAt first (refuses k p) = pick (eqb k 13) (refuses k first) (refuses k p)
+placedAt first (refuses k p) = cond (eqb k 13) (refuses k first) (refuses k p)

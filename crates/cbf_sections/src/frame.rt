@@ -1,16 +1,17 @@
 // The frame of a section: its pixels, unpacked.
+use cbf_answers::Answer;
+use cbf_answers::Refusal;
 use cbf_format::Encoding;
-use cbf_pixels::Answer;
-use cbf_pixels::Refusal;
-use cbf_reader::Numbered;
-use cbf_reader::Section;
+use cbf_format::Numbered;
+use cbf_format::Section;
 ghost use mathlib.Core.Path.{_≡_};
 ghost use lib.ListN.{length};
-ghost use Rattle.cbf_format.specs.Files as F;
 ghost use Rattle.cbf_format.specs.Listing.{Placed};
-ghost use Rattle.cbf_pixels.specs.Answers.{outcome, written, unpackOutcome, unpackOutput};
+ghost use Rattle.cbf_answers.specs.Answers.{outcome, written};
+ghost use Rattle.cbf_pixels.specs.PixelCalls.{unpackOutcome, unpackOutput};
 ghost use Rattle.cbf_sections.specs.SectionCalls.{placedAt, frameOutcome, framePixels};
 ghost use Rattle.cbf_sections.specs.FramePlaces.{FrameOf};
+ghost use Rattle.cbf_format.specs.Files as F;
 
 // The bytes of the closing boundary, with which the span of a section ends.
 const CLOSING_LENGTH: usize = 31;
@@ -36,8 +37,12 @@ fn placed(answer: Answer, first: usize) -> Answer
 // Unpacks the octets of a section, from the file or from the text that they stand in. 13 is at 0.
 fn unpack_octets(file: &[u8], s: Section, out: &mut [i64]) -> Answer
     requires { ⌜ ((p : Placed) × FrameOf (now file) p s) ⌝ }
-    ensures answer { λ r. ⌜ ((p : Placed) → FrameOf (now (file .entry)) p s → outcome r ≡ unpackOutcome (s .description .compression) (s .description .kind) (s .description .elements) (p .section .octets) (length (now (out .entry)))) ⌝ }
-    ensures output { λ _. ⌜ ((p : Placed) → FrameOf (now (file .entry)) p s → now (out .exit) ≡ unpackOutput (s .description .compression) (s .description .kind) (s .description .elements) (p .section .octets) (now (out .entry))) ⌝ }
+    ensures answer { λ r. ⌜ ((p : Placed) → FrameOf (now (file .entry)) p s → outcome r
+        ≡ unpackOutcome (s .description .compression) (s .description .kind) (s .description .elements)
+        (p .section .octets) (length (now (out .entry)))) ⌝ }
+    ensures output { λ _. ⌜ ((p : Placed) → FrameOf (now (file .entry)) p s → now (out .exit)
+        ≡ unpackOutput (s .description .compression) (s .description .kind) (s .description .elements)
+        (p .section .octets) (now (out .entry))) ⌝ }
 {
     let d = s.description;
     let encoding = d.encoding;
@@ -48,7 +53,7 @@ fn unpack_octets(file: &[u8], s: Section, out: &mut [i64]) -> Answer
     let first = s.first;
     match encoding {
         Encoding::Binary => {
-            cbf_pixels::unpack(compression, kind, &file[first..first + size], count, out)
+            cbf_unpack::unpack(compression, kind, &file[first..first + size], count, out)
         }
         Encoding::Base64 => cbf_text::unpack(
             compression,
@@ -65,8 +70,10 @@ fn unpack_octets(file: &[u8], s: Section, out: &mut [i64]) -> Answer
 
 // Unpacks the frame of the section with this number: reading's refusal, 12, 13, 15, or the number of its pixels.
 pub fn unpack(file: &[u8], limit: usize, number: usize, out: &mut [i64]) -> Answer
-    ensures answer { λ r. ⌜ outcome r ≡ frameOutcome (F.read limit (now (file .entry))) number (length (now (out .entry))) ⌝ }
-    ensures output { λ _. ⌜ now (out .exit) ≡ written (frameOutcome (F.read limit (now (file .entry))) number (length (now (out .entry)))) (framePixels (F.read limit (now (file .entry))) number) (now (out .entry)) ⌝ }
+    ensures answer { λ r. ⌜ outcome r ≡ frameOutcome (F.read limit (now (file .entry))) number
+        (length (now (out .entry))) ⌝ }
+    ensures output { λ _. ⌜ now (out .exit) ≡ written (frameOutcome (F.read limit (now (file .entry))) number
+        (length (now (out .entry)))) (framePixels (F.read limit (now (file .entry))) number) (now (out .entry)) ⌝ }
 {
     let numbered = cbf_reader::numbered_section(file, limit, number);
     match numbered {

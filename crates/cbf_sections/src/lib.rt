@@ -1,4 +1,5 @@
-// The calls that count a file's sections, or ask for the fields, the octets or the pixels of one. What they answer is in specs/.
+// The calls that count a file's sections, or ask for the fields, the octets or the pixels of one. What they answer is
+// in specs/.
 mod frame;
 mod section_calls;
 

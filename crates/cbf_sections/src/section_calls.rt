@@ -1,14 +1,15 @@
-// The calls that count a file's sections, or ask for the fields or the octets of one. Text lines have at most limit characters.
+// The calls that count a file's sections, or ask for the fields or the octets of one. Text lines have at most limit
+// characters.
+use cbf_answers::Answer;
+use cbf_answers::Refusal;
 use cbf_format::Encoding;
-use cbf_pixels::Answer;
-use cbf_pixels::Refusal;
+use cbf_format::Numbered;
 use cbf_reader::Count;
-use cbf_reader::Numbered;
 ghost use mathlib.Core.Path.{_≡_};
+ghost use Rattle.cbf_answers.specs.Answers.{outcome};
+ghost use Rattle.cbf_sections.specs.SectionCalls.{readOutcome, numberedFields, sectionFields, octetsOf};
+ghost use Rattle.cbf_sections.specs.SectionCalls.{octetsPlace, octetsOutcome, octetsPart, placeOf};
 ghost use Rattle.cbf_format.specs.Files as F;
-ghost use Rattle.cbf_pixels.specs.Answers.{outcome};
-ghost use Rattle.cbf_sections.specs.SectionCalls.{readOutcome, numberedFields, sectionFields};
-ghost use Rattle.cbf_sections.specs.SectionCalls.{octetsOf, octetsPlace, octetsOutcome, octetsPart, placeOf};
 
 // How many sections the file has: reading's refusal, or their number.
 pub fn read(file: &[u8], limit: usize) -> Answer
@@ -21,10 +22,11 @@ pub fn read(file: &[u8], limit: usize) -> Answer
     }
 }
 
-// The fields of the section with this number, counted from 1: reading's refusal, 12, or the fields. Where in the file the name of its
-// data block lies is left free; what stands there is the name.
+// The fields of the section with this number, counted from 1: reading's refusal, 12, or the fields. Where in the file
+// the name of its data block lies is left free; what stands there is the name.
 pub fn section(file: &[u8], limit: usize, number: usize) -> Numbered
-    ensures answer { λ r. ⌜ numberedFields (now (file .entry)) r ≡ sectionFields (F.read limit (now (file .entry))) number ⌝ }
+    ensures answer { λ r. ⌜ numberedFields (now (file .entry)) r ≡ sectionFields (F.read limit (now (file .entry)))
+        number ⌝ }
 {
     cbf_reader::numbered_section(file, limit, number)
 }
@@ -67,8 +69,8 @@ pub fn octets_answer(file: &[u8], limit: usize, number: usize) -> Answer
     }
 }
 
-// The octets of a BINARY section, as a part of the file. The part is empty where octets_answer is a refusal; where an empty part lies
-// is left free, and it is at the file's start.
+// The octets of a BINARY section, as a part of the file. The part is empty where octets_answer is a refusal; where an
+// empty part lies is left free, and it is at the file's start.
 pub fn octets(file: &[u8], limit: usize, number: usize) -> &[u8]
     ensures part { λ r. ⌜ now r ≡ octetsPart (octetsOf (F.read limit (now (file .entry))) number) ⌝ }
 {

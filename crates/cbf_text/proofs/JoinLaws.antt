@@ -1,4 +1,5 @@
--- Octets written from letters: group after group, letters side by side or wherever they stand, stretch after stretch of a text. Assumes nothing.
+-- Octets written from letters: group after group, letters side by side or wherever they stand, stretch after stretch
+-- of a text. Assumes nothing.
 use mathlib.Core.Path.{_≡_, refl, sym, ap, _∙_}
 use mathlib.Core.Logic.{⊎-elim}
 use mathlib.Core.Bool.{true}
@@ -7,15 +8,15 @@ use Prim.Native.Nat.{ℕ, zero, suc, _+_, _*_, _/_, _%_, _<_, _≤_}
 use native.Mathlib.Numerals.{add-one, add-two, add-three}
 use native.Mathlib.Omega.{arith}
 use lib.ListN.{length, take, drop, getD, length-append, List·getD-append}
-use lib.Seq.{sets, slice, length-sets, sets-eq, take-add, take-take, take-at, drop-cons, length-take-le, length-slice, slice-cons, slice-empty}
+use lib.Seq.{sets, slice, length-sets, sets-eq, take-add, take-take, take-at, drop-cons, length-take-le, length-slice}
+use lib.Seq.{slice-cons, slice-empty}
 use Rattle.cbf_format.specs.declared.Symbol.{Symbol}
 use Rattle.cbf_format.specs.declared.Symbol.the-variants.{Letter, Pad, Blank, Other}
 use Rattle.cbf_format.specs.Base64.{symbol}
-use Rattle.cbf_pixels.proofs.Writing.{sets-then}
-use Rattle.cbf_reader.specs.Classes.{isLetter}
-use Rattle.cbf_reader.specs.Places.{Run}
-use Rattle.cbf_reader.proofs.Texts.{run-then, getD-slice}
-use Rattle.cbf_reader.proofs.ClosingLaws.{slice-then}
+use Rattle.cbf_answers.proofs.Stores.{sets-then}
+use Rattle.cbf_lines.specs.Text.{isLetter, Run}
+use Rattle.cbf_lines.proofs.TextLaws.{run-then, getD-slice}
+use Rattle.cbf_lines.proofs.ClosingLaws.{slice-then}
 use Rattle.cbf_format.proofs.Base64Laws.{symbol-letter}
 use Rattle.cbf_text.specs.Letters.{addSix, sixes, groupOctets, joined}
 use Rattle.cbf_text.specs.Texts.{LettersOnly, SixesOnly, NextSays, textOctets, Decodes}

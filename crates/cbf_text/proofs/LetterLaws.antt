@@ -1,9 +1,12 @@
--- The octets that a BASE64 text stands for are the joined six-bit numbers of its bytes; joining goes group by group. Assumes nothing.
+-- The octets that a BASE64 text stands for are the joined six-bit numbers of its bytes; joining goes group by group.
+-- Assumes nothing.
+use mathlib.Core.List.{List, [], _∷_, _++_}
+use Prim.Native.Nat.{ℕ, zero, suc, _+_, _*_, _-_, _/_, _%_, _≤_}
+use Rattle.cbf_format.specs.declared.Symbol.{Symbol}
+use Rattle.cbf_text.specs.Letters.{addSix, sixes, groupOctets, joined}
 use mathlib.Core.Path.{_≡_, refl, sym, ap, _∙_, subst}
 use mathlib.Core.Option.{Option, none, some, Option·some-ne-none}
 use mathlib.Core.Bool.{Bool, true, false, _&&_, cond}
-use mathlib.Core.List.{List, [], _∷_, _++_}
-use Prim.Native.Nat.{ℕ, zero, suc, _+_, _*_, _-_, _/_, _%_, _≤_}
 use native.Mathlib.Omega.{arith}
 use lib.Dec.{eqb}
 use borrow.Author.Tests.{eqb-true}
@@ -11,17 +14,22 @@ use lib.ListN.{length, take, drop}
 use lib.Seq.{take-add}
 use Rattle.cbf_walk.specs.Parsers.{ok, Parser, hd, ret, counted, screen, onward}
 use Rattle.cbf_walk.proofs.ParserLaws.{Unbound, cut≢ok, ok-val, ok-num, unbind, uncount, unscreen, unonward}
-use Rattle.cbf_format.specs.declared.Symbol.{Symbol}
 use Rattle.cbf_format.specs.declared.Symbol.the-variants.{Letter, Pad, Blank, Other}
 use Rattle.cbf_format.specs.declared.Encoding.the-variants.{Base64}
 use Rattle.cbf_format.specs.Text.{same}
 use Rattle.cbf_format.specs.Lines.{endLength, lineOr, line, semicolonLine}
-use Rattle.cbf_format.specs.Base64.{symbol, addSymbol, addSymbols, Letters, refusedSymbol, refusedText, moreText, letters, six, isPad, isEmpty, lastGroup, fromGroup, decode}
-use Rattle.cbf_format.specs.Sections.{closing, fileLimit, Data, goodText, base64Data}
+use Rattle.cbf_format.specs.Base64.{symbol, addSymbol, addSymbols, Letters, refusedSymbol, refusedText, moreText}
+use Rattle.cbf_format.specs.Base64.{letters, six, isPad, isEmpty, lastGroup, fromGroup, decode}
+use Rattle.cbf_format.specs.Sections.{closing, Data, goodText, base64Data}
+use Rattle.cbf_answers.specs.Limits.{fileLimit}
 use Rattle.cbf_format.proofs.LineTame.{unadd, and-true}
 use Rattle.cbf_format.proofs.SectionTame.{letters-tame, text, base64Of, afterText, unclose, base64Data-tame}
 use Rattle.cbf_format.proofs.SectionLaws.{letters-end, data-says}
-use Rattle.cbf_text.specs.Letters.{addSix, sixes, sixesOf, groupOctets, joined}
+
+-- the same of symbols
+unfoldable pub sixesOf : List Symbol → List ℕ
+sixesOf [] = []
+sixesOf (s ∷ l) = addSix s (sixesOf l)
 
 -- ---- the numbers of one text after another
 
@@ -174,7 +182,10 @@ module _ (limit : ℕ) (boundary : List ℕ) (P : ℕ → List ℕ → Letters �
       → moreText b go at tn (drop (tn .1) s) ≡ ok l n → P at s l
   line-by true go at tn each s q r l n e = subst (P at s) (ok-val e) (closes at s)
   line-by false go at tn each s q r l n e =
-      let u = unbind (go (at + tn .1)) (λ (l : Letters). ret (record { symbols = addSymbols (tn .0) (l .symbols); closing = l .closing })) (drop (tn .1) s) l n e in
+      let u = unbind (go (at + tn .1)) (λ (l : Letters). ret (record {
+        symbols = addSymbols (tn .0) (l .symbols);
+        closing = l .closing;
+      })) (drop (tn .1) s) l n e in
       subst (P at s) (ok-val (u .then-did)) (carries at s (tn .0) (tn .1) (u .val) q r (each (at + tn .1) (drop (tn .1) s) (u .val) (u .first) (u .did)))
 
   pub letters-by : (f at : ℕ) (s : List ℕ) (l : Letters) (n : ℕ) → letters limit boundary f at s ≡ ok l n → P at s l
@@ -204,7 +215,8 @@ letters-before limit boundary =
     (λ at s t n l q r i. (
       n + i .0,
       omega (arith, i .1),
-      added-sixes t (l .symbols) ∙ rw (i .2, ← (line-sixes s t n q)) (sym (sixes-append (take n s) (take (i .0) (drop n s)))) ∙ ap sixes (sym (take-add n (i .0) s)),
+      added-sixes t (l .symbols) ∙ rw (i .2, ← (line-sixes s t n q))
+          (sym (sixes-append (take n s) (take (i .0) (drop n s)))) ∙ ap sixes (sym (take-add n (i .0) s)),
     ))
 
 -- the letters of a text's lines, up to its closing line, are those of its bytes
@@ -254,7 +266,8 @@ base64-octets limit size s d n e =
   where
     Says : Data → Type 0
     Says d =
-        (d .lead ≡ 0) × (31 ≤ d .width) × (d .width ≤ length s) × (length (d .octets) ≡ size) × (d .octets ≡ take size (joined (sixes (take (d .width - 31) s))))
+        (d .lead ≡ 0) × (31 ≤ d .width) × (d .width ≤ length s) × (length (d .octets) ≡ size)
+        × (d .octets ≡ take size (joined (sixes (take (d .width - 31) s))))
 
     says : (l : Letters) → sixesOf (l .symbols) ≡ sixes (take (l .closing - 0) s) → l .closing + 31 ≤ length s
         → (os : List ℕ) × (decode (l .symbols) ≡ some os) × (length os ≡ size) → Says (base64Of l)

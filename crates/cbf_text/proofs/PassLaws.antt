@@ -1,4 +1,5 @@
--- A pass over the pixels of a text: what holds at each turn, what a part requires and what it leaves, and the end. Assumes nothing.
+-- A pass over the pixels of a text: what holds at each turn, what a part requires and what it leaves, and the end.
+-- Assumes nothing.
 use Prim.Native.Nat.{ℕ, _+_, _-_, _^_, _<_, _≤_}
 use native.Mathlib.Omega.{arith}
 use mathlib.Core.Path.{_≡_, refl, sym, ap, _∙_, subst}
@@ -15,15 +16,16 @@ use mir.Syntax.{w64}
 use mir.Val.{toZ, ofZ}
 use borrow.Author.Tests.{eqb-true, eqb-false}
 use Rattle.cbf_pixels.specs.declared.ElementType.{ElementType}
-use Rattle.cbf_pixels.specs.declared.Part.{Part}
+use Rattle.cbf_octets.specs.declared.Part.{Part}
 use Rattle.cbf_pixels.specs.Pixels.{within, least, greatest, unpackFrom, unpackByteOffset}
-use Rattle.cbf_pixels.specs.Answers.{isSome, pixelsOf}
-use Rattle.cbf_pixels.specs.Steps.{rest, onto, Behind, Stopped, Fillable}
+use Rattle.cbf_pixels.specs.PixelCalls.{isSome, pixelsOf}
+use Rattle.cbf_octets.specs.Rest.{rest, onto, Behind, Stopped}
+use Rattle.cbf_unpack.specs.Fill.{Fillable}
 use Rattle.cbf_pixels.proofs.Integers.{never, within-small, held}
-use Rattle.cbf_pixels.proofs.Little.{sets-append}
-use Rattle.cbf_pixels.proofs.Rest.{some-onto, rest-end}
-use Rattle.cbf_pixels.proofs.Passing.{zero-within}
-use Rattle.cbf_pixels.proofs.Filling.{onto-onto, onto-nil, rest-empty}
+use Rattle.cbf_answers.proofs.Stores.{sets-append}
+use Rattle.cbf_octets.proofs.RestLaws.{some-onto, rest-end}
+use Rattle.cbf_validate.proofs.ValidateLaws.{zero-within}
+use Rattle.cbf_unpack.proofs.FillLaws.{onto-onto, onto-nil, rest-empty}
 use Rattle.cbf_text.specs.Texts.{textOctets, content, Holds}
 use Rattle.cbf_text.specs.TextParts.{PartSays, passOutput}
 use Rattle.cbf_text.specs.declared.text_window.Window.{Window}
@@ -96,7 +98,9 @@ module _ {writing : Bool} {t : ElementType} {all : Option (List ℤ)} {os tail :
             record {
               pixels = o .pixels ++ f .pixels;
               many = omega (arith, length-append (o .pixels) (f .pixels), o .many, f .many);
-              wrote = f .wrote ∙ ap (λ (x : List ℤ). sets x k (f .pixels)) (o .wrote) ∙ ap (λ (x : ℕ). sets (sets out₀ 0 (o .pixels)) x (f .pixels)) here ∙ sets-append out₀ 0 (o .pixels) (f .pixels);
+              wrote = f .wrote ∙ ap (λ (x : List ℤ). sets x k (f .pixels)) (o .wrote)
+                  ∙ ap (λ (x : ℕ). sets (sets out₀ 0 (o .pixels)) x (f .pixels)) here ∙ sets-append out₀ 0 (o .pixels)
+                  (f .pixels);
               says = o .says ∙ ap (onto (o .pixels)) (f .leads t tail b (sym (left-same d) ∙ a e)) ∙ onto-onto (o .pixels) (f .pixels) l;
               small = f .after;
             };
@@ -128,7 +132,8 @@ abbrev pub leftOf : ElementType → List ℕ → ℕ → List ℕ → Window →
 leftOf t file to window w z n = rest t (take (w .have) window) (take (w .left) (textOctets file (w .at) to)) z (w .next) n
 
 -- what holds at each turn
-pub record Passing (t : ElementType) (file : List ℕ) (from to count : ℕ) (writing : Bool) (all : Option (List ℤ)) (out₀ out : List ℤ) (window : List ℕ) (w : Window) (z : ℤ) (k : ℕ) : Type 0 where
+pub record Passing (t : ElementType) (file : List ℕ) (from to count : ℕ) (writing : Bool) (all : Option (List ℤ))
+    (out₀ out : List ℤ) (window : List ℕ) (w : Window) (z : ℤ) (k : ℕ) : Type 0 where
   pub holds : Holds file to window w
   pub low : from ≤ w .at
   pub few : k ≤ count
@@ -137,8 +142,10 @@ pub record Passing (t : ElementType) (file : List ℕ) (from to count : ℕ) (wr
 
 module _ {t : ElementType} {file : List ℕ} {from to count : ℕ} {writing : Bool} {all : Option (List ℤ)} {out₀ out : List ℤ} where
   -- the window was filled again
-  pub refilled : {window window′ : List ℕ} {w r : Window} {z : ℤ} {k : ℕ} → Passing t file from to count writing all out₀ out window w z k → Holds file to window′ r
-      → content file to window′ r ≡ content file to window w → w .at ≤ r .at → length window′ ≡ length window → Passing t file from to count writing all out₀ out window′ r z k
+  pub refilled : {window window′ : List ℕ} {w r : Window} {z : ℤ} {k : ℕ} → Passing t file from to count writing all
+      out₀ out window w z k → Holds file to window′ r
+      → content file to window′ r ≡ content file to window w → w .at ≤ r .at → length window′ ≡ length window
+      → Passing t file from to count writing all out₀ out window′ r z k
   unfolding rest
   refilled {z = z} {k = k} s holds same onward wide =
       record {
@@ -177,7 +184,13 @@ module _ {t : ElementType} {file : List ℕ} {from to count : ℕ} {writing : Bo
       ends-not e =
           sym (left-same ended-is
           ∙ remain t z (content file to window w)
-          (omega (arith, length-append (slice (w .next) (w .have) window) (take (w .left) (textOctets file (w .at) to)), length-take-le (w .left) (textOctets file (w .at) to) (s .holds .enough))))
+          (omega (
+            arith,
+            length-append (slice (w .next) (w .have) window)
+                (take (w .left) (textOctets file (w .at) to)),
+            length-take-le (w .left) (textOctets file (w .at) to)
+                (s .holds .enough),
+          )))
 
       pub output : (writing ≡ true → (count ≤ length out₀) × (isSome all ≡ true)) → out ≡ passOutput writing all count out₀
       unfolding pixelsOf
@@ -188,7 +201,8 @@ module _ {t : ElementType} {file : List ℕ} {from to count : ℕ} {writing : Bo
           let o = ended-is .written e in
           let ps = o .pixels in
           let m : 0 + length ps ≡ count = omega (arith, o .many, s .few) in
-          let q : all ≡ some (ps ++ []) = o .says ∙ ap (onto ps) (rest-empty t (take (w .have) window) (take (w .left) (textOctets file (w .at) to)) z (w .next) (sym (left-same ended-is) ∙ a e .1)) in
+          let q : all ≡ some (ps ++ []) = o .says ∙ ap (onto ps) (rest-empty t (take (w .have) window)
+          (take (w .left) (textOctets file (w .at) to)) z (w .next) (sym (left-same ended-is) ∙ a e .1)) in
           rw e
           (o .wrote
           ∙ sets-eq ps out₀ 0 (omega (arith, a e .0))
@@ -198,9 +212,11 @@ module _ {t : ElementType} {file : List ℕ} {from to count : ℕ} {writing : Bo
     -- the next part
     module _ (f : w .next ≡ 0) where
       here : Done writing t all (rest t (take (w .have) window) (take (w .left) (textOctets file (w .at) to)) z 0 (count - k)) out₀ out z k
-      here = subst (λ (n : ℕ). Done writing t all (rest t (take (w .have) window) (take (w .left) (textOctets file (w .at) to)) z n (count - k)) out₀ out z k) f (s .done)
+      here = subst (λ (n : ℕ). Done writing t all (rest t (take (w .have) window)
+          (take (w .left) (textOctets file (w .at) to)) z n (count - k)) out₀ out z k) f (s .done)
 
-      pub fillable : count ≤ length out₀ → isSome all ≡ true → Fillable (take (w .have) window) (eqb (w .left) 0) z 0 (count - k) × (k + (count - k) ≤ length out)
+      pub fillable : count ≤ length out₀ → isSome all ≡ true → Fillable (take (w .have) window) (eqb (w .left) 0) z 0
+          (count - k) × (k + (count - k) ≤ length out)
       fillable l a = (
         record {
           type = t;
@@ -230,7 +246,13 @@ module _ {t : ElementType} {file : List ℕ} {from to count : ℕ} {writing : Bo
             enough (inr h) n = omega (arith, there, s .wide)
 
         pub turned : (writing ≡ true → isSome all ≡ true) → p .good ≡ true
-            → Passing t file from to count writing all out₀ out′ window (record { at = w .at; left = w .left; next = p .last .next; have = w .have }) (toZ w64 (ofZ w64 (p .last .pixel))) (k + p .count)
+            → Passing t file from to count writing all out₀ out′ window (record {
+              at = w .at;
+              left = w .left;
+              next =
+                  p .last .next;
+              have = w .have;
+            }) (toZ w64 (ofZ w64 (p .last .pixel))) (k + p .count)
         turned a g =
             let d = part-then behind here ps a g in
             let m = part-few behind here ps in
@@ -245,8 +267,10 @@ module _ {t : ElementType} {file : List ℕ} {from to count : ℕ} {writing : Bo
             }
 
 -- before the first turn
-pub starts : (t : ElementType) (file : List ℕ) (from to size count : ℕ) (writing : Bool) (out : List ℤ) (window : List ℕ) → from ≤ to → size ≤ length (textOctets file from to) → length window ≡ 1536
-    → Passing t file from to count writing (unpackByteOffset t count (take size (textOctets file from to))) out out window (record { at = from; left = size; next = 0; have = 0 }) (pos 0) 0
+pub starts : (t : ElementType) (file : List ℕ) (from to size count : ℕ) (writing : Bool) (out : List ℤ)
+    (window : List ℕ) → from ≤ to → size ≤ length (textOctets file from to) → length window ≡ 1536
+    → Passing t file from to count writing (unpackByteOffset t count (take size (textOctets file from to))) out out
+    window (record { at = from; left = size; next = 0; have = 0 }) (pos 0) 0
 unfolding rest unpackByteOffset
 starts t file from to size count writing out window h l wide =
     let c : count - 0 ≡ count = omega arith in

@@ -1,4 +1,5 @@
--- A BASE64 section of an accepted file: where its text stands, that it is good, and that its octets are the section's. Assumes nothing.
+-- A BASE64 section of an accepted file: where its text stands, that it is good, and that its octets are the
+-- section's. Assumes nothing.
 use mathlib.Core.Path.{_≡_, sym, ap, _∙_}
 use mathlib.Core.Bool.{true}
 use mathlib.Core.List.{List}
@@ -31,19 +32,22 @@ text-of {limit} {file} {p} d e =
     to = p .boundary + p .section .width - 31
 
     go : (d .found .lead ≡ 0) × (31 ≤ d .found .width) × (d .found .width ≤ length (drop (d .at) file)) × (length (d .found .octets) ≡ size)
-        × (d .found .octets ≡ take size (joined (sixes (take n (drop (d .at) file))))) → ((i : ℕ) → i < n → textByte (getD (drop (d .at) file) i 0) ≡ true) → TextOf file p to
+        × (d .found .octets ≡ take size (joined (sixes (take n (drop (d .at) file)))))
+        → ((i : ℕ) → i < n → textByte (getD (drop (d .at) file) i 0) ≡ true) → TextOf file p to
     go b good =
         let at : d .at ≡ position p = omega (arith, d .first, b .0) in
         let wide : position p + n ≡ to = omega (arith, d .end, at, b .1) in
         let text : take n (drop (d .at) file) ≡ slice (position p) to file =
         ap (λ (k : ℕ). take n (drop k file)) at ∙ sym (slice-take file (position p) n (position-in d)) ∙ ap (λ (k : ℕ). slice (position p) k file) wide in
-        let octets : p .section .octets ≡ take size (textOctets file (position p) to) = d .octets ∙ b .4 ∙ ap (λ (l : List ℕ). take size (joined (sixes l))) text in
+        let octets : p .section .octets ≡ take size (textOctets file (position p) to) = d .octets ∙ b .4
+        ∙ ap (λ (l : List ℕ). take size (joined (sixes l))) text in
         record {
           end = omega (arith, d .end, b .1);
           begun = omega (arith, wide);
           inside = omega (arith, wide, at, b .1, b .2, length-drop (d .at) file, position-in d);
           good-text = λ i h k.
-              let m : d .at + (i - d .at) ≡ i = omega (arith, at) in rw (getD-drop (d .at) file (i - d .at) 0, m) at (good (i - d .at) (omega (arith, at, wide)));
+              let m : d .at + (i - d .at) ≡ i = omega (arith, at) in rw (getD-drop (d .at) file (i - d .at) 0, m) at
+              (good (i - d .at) (omega (arith, at, wide)));
           enough = omega (arith, octet-count d, ap length octets, length-take size (textOctets file (position p) to));
           octets = octets;
         }

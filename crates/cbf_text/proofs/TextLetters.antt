@@ -1,4 +1,5 @@
--- The bytes of a BASE64 text: which are letters, what number each has, and the numbers of a text from one place of the file on; BASE64 data is good text. Assumes nothing.
+-- The bytes of a BASE64 text: which are letters, what number each has, and the numbers of a text from one place of
+-- the file on; BASE64 data is good text. Assumes nothing.
 use mathlib.Core.Path.{_≡_, refl, sym, ap, _∙_, subst}
 use mathlib.Core.Bool.{Bool, true, false, not, _&&_, cond, true≢false}
 use mathlib.Core.Logic.{_⊎_, ⊎-elim}
@@ -18,10 +19,11 @@ use Rattle.cbf_format.specs.declared.Symbol.the-variants.{Letter, Pad, Blank, O
 use Rattle.cbf_format.specs.Text.{textual}
 use Rattle.cbf_format.specs.Lines.{endLength, lineOr, line}
 use Rattle.cbf_format.specs.Base64.{symbol, isOther, refusedSymbol, Letters, letters}
-use Rattle.cbf_format.specs.Sections.{closing, fileLimit, Data, base64Data}
+use Rattle.cbf_format.specs.Sections.{closing, Data, base64Data}
+use Rattle.cbf_answers.specs.Limits.{fileLimit}
 use Rattle.cbf_format.proofs.LineTame.{unadd, and-true}
-use Rattle.cbf_reader.specs.Classes.{isLetter}
-use Rattle.cbf_reader.proofs.Texts.{tests-agree}
+use Rattle.cbf_lines.specs.Text.{isLetter}
+use Rattle.cbf_lines.proofs.TextLaws.{tests-agree}
 use Rattle.cbf_text.specs.Letters.{addSix, sixes}
 use Rattle.cbf_text.specs.Texts.{textByte}
 use Rattle.cbf_text.proofs.LetterLaws.{letters-by, base64-letters}
@@ -165,7 +167,8 @@ line-good limit k (x ∷ s) t n e r = go (eqb x 10) (eqb x 13) refl refl e (λ t
         let q = unrefused limit k x (u .0) (rw (u .3) at r) in
         rw (u .4) (one-more x (u .1) s (rw (q .0)) (ih (u .0) (u .1) (u .2) (q .1)))
 
-letters-good : (limit : ℕ) (boundary : List ℕ) (f at : ℕ) (s : List ℕ) (l : Letters) (n : ℕ) → letters limit boundary f at s ≡ ok l n → GoodTo (l .closing - at) s
+letters-good : (limit : ℕ) (boundary : List ℕ) (f at : ℕ) (s : List ℕ) (l : Letters) (n : ℕ) → letters limit boundary
+    f at s ≡ ok l n → GoodTo (l .closing - at) s
 letters-good limit boundary =
     letters-by limit boundary (λ at s l. GoodTo (l .closing - at) s) (λ at s i h. absurd (omega arith))
     (λ at s t n l q r g i h.
@@ -173,7 +176,8 @@ letters-good limit boundary =
     (λ i j k. let m : n + (i - n) ≡ i = omega arith in rw (getD-drop n s (i - n) 0, m) at (g (i - n) (omega arith))) i (omega arith) h)
 
 -- BASE64 data is good text before its closing boundary
-pub base64-good : (limit size : ℕ) (s : List ℕ) (d : Data) (n : ℕ) → base64Data limit size s ≡ ok d n → (i : ℕ) → i < d .width - 31 → textByte (getD s i 0) ≡ true
+pub base64-good : (limit size : ℕ) (s : List ℕ) (d : Data) (n : ℕ) → base64Data limit size s ≡ ok d n → (i : ℕ)
+    → i < d .width - 31 → textByte (getD s i 0) ≡ true
 base64-good limit size s d n e i h =
     let b = base64-letters limit size s d n e in
     let w : b .0 .closing + 31 ≡ d .width = ap (λ (d : Data). d .width) (b .4) in

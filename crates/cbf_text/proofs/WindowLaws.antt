@@ -7,15 +7,19 @@ use mathlib.Core.Path.{_≡_, refl, sym, ap, ap₂, _∙_}
 use mathlib.Core.Logic.{_⊎_, inl, inr, ⊎-elim}
 use mathlib.Core.List.{List, [], _∷_, _++_, append-assoc, append-nil}
 use lib.IntN.{ℤ}
-use lib.ListN.{length, take, drop, set, getD, length-append, length-take, length-drop, length-set, drop-of-length-le, take-append-drop}
-use lib.Seq.{slice, take-suc, take-suc-set, drop-set-lt, drop-drop, getD-drop, sets-eq, length-sets, length-slice, take-append-le, take-append-add, take-take, take-length, drop-at, length-take-le}
+use lib.ListN.{length, take, drop, set, getD, length-append, length-take, length-drop, length-set, drop-of-length-le}
+use lib.ListN.{take-append-drop}
+use lib.Seq.{slice, take-suc, take-suc-set, drop-set-lt, drop-drop, getD-drop, sets-eq, length-sets, length-slice}
+use lib.Seq.{take-append-le, take-append-add, take-take, take-length, drop-at, length-take-le}
 use borrow.Rule.Slice.PartAt.{part-to-end}
 use Rattle.cbf_pixels.specs.declared.ElementType.{ElementType}
 use Rattle.cbf_pixels.specs.declared.Compression.the-variants.{Uncompressed}
 use Rattle.cbf_pixels.specs.Uncompressed.{octetsPer, isSigned, unpackUncompressed}
-use Rattle.cbf_pixels.specs.Answers.{pixelLimit, pixelsOf, unpackOutput}
-use Rattle.cbf_pixels.proofs.Loading.{pixelsIn, pixels-append, read-all, Front, front-none, front-run, next-fits}
-use Rattle.cbf_pixels.proofs.Calls.{uncompressed-output}
+use Rattle.cbf_answers.specs.Limits.{pixelLimit}
+use Rattle.cbf_pixels.specs.PixelCalls.{pixelsOf, unpackOutput}
+use Rattle.cbf_unpack.proofs.UncompressedLaws.{pixelsIn, pixels-append, read-all, Front, front-none, front-run}
+use Rattle.cbf_unpack.proofs.UncompressedLaws.{next-fits}
+use Rattle.cbf_unpack.proofs.UnpackingLaws.{uncompressed-output}
 use Rattle.cbf_format.proofs.Slices.{slice-take}
 use Rattle.cbf_text.specs.Texts.{Decodes, Holds, content, textOctets}
 use Rattle.cbf_text.specs.declared.text_window.Window.{Window}
@@ -40,14 +44,16 @@ slid-more next j old new h S =
     let a : next + (j + 1) ≡ next + j + 1 = omega arith in
     record {
       front =
-          rw (add-one j) (take-suc-set new j (getD new (next + j) 0) (omega arith) ∙ ap₂ (λ (l : List ℕ) (y : ℕ). l ++ (y ∷ [])) (S .front) e ∙ sym (take-suc (drop next old) j 0 (omega (arith, length-drop next old))));
+          rw (add-one j) (take-suc-set new j (getD new (next + j) 0) (omega arith) ∙ ap₂ (λ (l : List ℕ) (y : ℕ). l
+          ++ (y ∷ [])) (S .front) e ∙ sym (take-suc (drop next old) j 0 (omega (arith, length-drop next old))));
       beyond =
           drop-set-lt (next + (j + 1)) new j (getD new (next + j) 0) (omega arith)
           ∙ rw a (sym (drop-drop 1 (next + j) new) ∙ ap (drop 1) (S .beyond) ∙ drop-drop 1 (next + j) old);
       size = length-set new j (getD new (next + j) 0) ∙ S .size;
     }
 
-pub slid-all : (next have j : ℕ) (old new : List ℕ) → next ≤ have → have ≤ length old → j ≡ have - next → Slid next j old new → take (have - next) new ≡ slice next have old
+pub slid-all : (next have j : ℕ) (old new : List ℕ) → next ≤ have → have ≤ length old → j ≡ have - next
+    → Slid next j old new → take (have - next) new ≡ slice next have old
 slid-all next have j old new h k e S =
     let f : next + j ≡ have = omega arith in
     rw (← e) (S .front ∙ sym (slice-take old next j (omega arith)) ∙ ap (λ (n : ℕ). slice next n old) f)
@@ -103,7 +109,8 @@ module _
           (inl refl, D .low, as-long ∙ size),
         )
 
-    pub refilled-more : end - (w .have - w .next) ≤ w .left → (length moved < end + 3) ⊎ (textOctets file at to ≡ []) → Refilled (record { at = at; left = w .left - (end - (w .have - w .next)); next = 0; have = end })
+    pub refilled-more : end - (w .have - w .next) ≤ w .left → (length moved < end + 3) ⊎ (textOctets file at to ≡ [])
+        → Refilled (record { at = at; left = w .left - (end - (w .have - w .next)); next = 0; have = end })
     refilled-more h stop =
         let q = slice (w .next) (w .have) old in
         let got = end - (w .have - w .next) in
@@ -173,7 +180,9 @@ module _ (t : ElementType) (o : ℕ) (file : List ℕ) (from to : ℕ) (all : Li
       }
 
   -- the window was filled
-  module _ {k : ℕ} {window window′ : List ℕ} {w v : Window} {out : List ℤ} (L : Loaded k window w out) (F : v .next ≡ 0) (H : Holds file to window′ v) (C : content file to window′ v ≡ content file to window w) (S : length window′ ≡ length window) where
+  module _ {k : ℕ} {window window′ : List ℕ} {w v : Window} {out : List ℤ} (L : Loaded k window w out) (F : v .next
+      ≡ 0) (H : Holds file to window′ v) (C : content file to window′ v ≡ content file to window w)
+      (S : length window′ ≡ length window) where
     abbrev behind : List ℕ
     behind = take (v .left) (textOctets file (v .at) to)
 
@@ -184,21 +193,34 @@ module _ (t : ElementType) (o : ℕ) (file : List ℕ) (from to : ℕ) (all : Li
     pub some-octets : (count : ℕ) → length all ≡ o * count → k < count → o ≤ 4 → (v .left ≡ 0) ⊎ (length window′ < v .have + 3) → o ≤ v .have
     some-octets count A h u s =
         ⊎-elim
-        (λ e. omega (arith, ap length whole, length-append (take (v .have) window′) behind, length-take (v .left) (textOctets file (v .at) to), length-take-le (v .have) window′ (H .high), length-drop (o * k) all, next-fits o k count h))
+        (λ e. omega (
+          arith,
+          ap length whole,
+          length-append (take (v .have) window′) behind,
+          length-take (v .left)
+              (textOctets file (v .at) to),
+          length-take-le (v .have) window′ (H .high),
+          length-drop (o * k) all,
+          next-fits o k count h,
+        ))
         (λ m. omega arith)
         s
 
     -- n pixels of it are written
     pub loaded-more : (n : ℕ) (part : List ℤ) → n * o ≤ v .have → o ≡ octetsPer t → n ≤ pixelLimit → k + n ≤ length out → w .at ≤ v .at
         → part ≡ unpackOutput Uncompressed t n (take (n * o) window′) (take (length out - k) (drop k out))
-        → Loaded (k + n) window′ (record { at = v .at; left = v .left; next = n * o; have = v .have }) (take k out ++ (part ++ drop (length out - k) (drop k out)))
+        → Loaded (k + n) window′ (record { at = v .at; left = v .left; next = n * o; have = v .have }) (take k out
+        ++ (part ++ drop (length out - k) (drop k out)))
     loaded-more n part i per u r b q =
         let x = take (n * o) window′ in
         let y = slice (n * o) (v .have) window′ ++ behind in
         let c : n * o ≡ o * n = omega arith in
         let m : o * k + n * o ≡ o * (k + n) = omega arith in
         let l : length x ≡ n * o = length-take-le (n * o) window′ (omega arith) in
-        let e : x ++ y ≡ drop (o * k) all = sym (append-assoc x (slice (n * o) (v .have) window′) behind) ∙ ap (λ (z : List ℕ). z ++ slice (n * o) (v .have) window′ ++ behind) (sym (take-take (n * o) (v .have) window′ i)) ∙ ap (λ (z : List ℕ). z ++ behind) (take-append-drop (n * o) (take (v .have) window′)) ∙ whole in
+        let e : x ++ y ≡ drop (o * k) all = sym (append-assoc x (slice (n * o) (v .have) window′) behind)
+        ∙ ap (λ (z : List ℕ). z ++ slice (n * o) (v .have) window′ ++ behind)
+        (sym (take-take (n * o) (v .have) window′ i)) ∙ ap (λ (z : List ℕ). z ++ behind) (take-append-drop (n * o)
+        (take (v .have) window′)) ∙ whole in
         record {
           holds = record { low = i; high = H .high; begun = H .begun; enough = H .enough };
           begun = omega arith;
@@ -210,5 +232,6 @@ module _ (t : ElementType) (o : ℕ) (file : List ℕ) (from to : ℕ) (all : Li
               ∙ ap (λ (j : ℕ). drop j all) m;
           front =
               front-run (isSigned t) o k n all old out (part ++ drop (length out - k) (drop k out)) (L .front) r
-              (unpacked-to t o k n x out part per u (l ∙ c) r q ∙ ap (λ (z : List ℤ). z ++ drop (k + n) out) (sym (pixels-append (isSigned t) o n x y (l ∙ c)) ∙ ap (pixelsIn (isSigned t) o n) e));
+              (unpacked-to t o k n x out part per u (l ∙ c) r q ∙ ap (λ (z : List ℤ). z ++ drop (k + n) out)
+              (sym (pixels-append (isSigned t) o n x y (l ∙ c)) ∙ ap (pixelsIn (isSigned t) o n) e));
         }

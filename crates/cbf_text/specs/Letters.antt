@@ -16,11 +16,6 @@ unfoldable pub sixes : List ℕ → List ℕ
 sixes [] = []
 sixes (x ∷ t) = addSix (symbol x) (sixes t)
 
--- the same of symbols
-unfoldable pub sixesOf : List Symbol → List ℕ
-sixesOf [] = []
-sixesOf (s ∷ l) = addSix s (sixesOf l)
-
 -- the octets of a group of four letters
 abbrev pub groupOctets : ℕ → ℕ → ℕ → ℕ → List ℕ
 groupOctets a b c d = (a * 4 + b / 16) ∷ (b % 16 * 16 + c / 4) ∷ (c % 4 * 64 + d) ∷ []

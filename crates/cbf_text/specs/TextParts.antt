@@ -6,10 +6,11 @@ use mathlib.Core.List.{List, _++_}
 use Prim.Native.Nat.{ℕ}
 use lib.ListN.{drop}
 use lib.IntN.{ℤ}
-use Rattle.cbf_pixels.specs.Answers.{pixelsOf}
-use Rattle.cbf_pixels.specs.Steps.{ValidPart, FilledPart}
+use Rattle.cbf_pixels.specs.PixelCalls.{pixelsOf}
+use Rattle.cbf_validate.specs.Validate.{ValidPart}
+use Rattle.cbf_unpack.specs.Fill.{FilledPart}
 use Rattle.cbf_pixels.specs.declared.ElementType.{ElementType}
-use Rattle.cbf_pixels.specs.declared.Part.{Part}
+use Rattle.cbf_octets.specs.declared.Part.{Part}
 
 -- a part that was validated, or written to out
 pub record PartSays (writing : Bool) (t : ElementType) (os : List ℕ) (ended : Bool) (z : ℤ) (i count k : ℕ) (out out′ : List ℤ) (r : Part) : Type 0 where

@@ -5,11 +5,11 @@ use mathlib.Core.Logic.{_⊎_}
 use mathlib.Core.List.{List, [], _∷_, _++_}
 use Prim.Native.Nat.{ℕ, _+_, _<_, _≤_}
 use lib.Dec.{eqb}
-use lib.ListN.{length, take, drop, getD}
+use lib.ListN.{length, take, getD}
 use lib.Seq.{sets, slice}
 use Rattle.cbf_format.specs.Base64.{symbol, isOther}
 use Rattle.cbf_format.specs.Listing.{Placed, position}
-use Rattle.cbf_reader.specs.Classes.{isLetter}
+use Rattle.cbf_lines.specs.Text.{isLetter}
 use Rattle.cbf_text.specs.Letters.{sixes, joined}
 use Rattle.cbf_text.specs.declared.text_window.Window.{Window}
 
@@ -50,7 +50,8 @@ pub record TextOf (file : List ℕ) (p : Placed) (to : ℕ) : Type 0 where
   pub enough : p .section .description .size ≤ length (textOctets file (position p) to)
   pub octets : p .section .octets ≡ take (p .section .description .size) (textOctets file (position p) to)
 
--- the first octets of the text from `at` on were written to out from `from` up to `end`, giving out′; the others are those from at′ on
+-- the first octets of the text from `at` on were written to out from `from` up to `end`, giving out′; the others are
+-- those from at′ on
 pub record Decodes (file : List ℕ) (at to : ℕ) (out : List ℕ) (from : ℕ) (out′ : List ℕ) (at′ end : ℕ) : Type 0 where
   pub octets : List ℕ
   pub many : from + length octets ≡ end

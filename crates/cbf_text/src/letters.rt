@@ -1,4 +1,5 @@
-// The letters of BASE64 text that reading has found good: each of its bytes is a letter, a pad, a blank, or of a line end.
+// The letters of BASE64 text that reading has found good: each of its bytes is a letter, a pad, a blank, or of a line
+// end.
 ghost use mathlib.Core.Path.{_≡_};
 ghost use mathlib.Core.Bool.{true};
 ghost use Prim.Native.Nat.{_+_, _-_, _%_, _<_, _≤_};
@@ -6,7 +7,7 @@ ghost use lib.ListN.{length, getD};
 ghost use lib.Seq.{sets, slice};
 ghost use Rattle.cbf_format.specs.Base64.{symbol};
 ghost use Rattle.cbf_format.specs.declared.Symbol.the-variants.{Letter};
-ghost use Rattle.cbf_reader.specs.Classes.{isLetter};
+ghost use Rattle.cbf_lines.specs.Text.{isLetter};
 ghost use Rattle.cbf_text.specs.Letters.{sixes};
 ghost use Rattle.cbf_text.specs.Texts.{textByte, GoodText, LettersOnly, NextSays};
 
@@ -37,7 +38,8 @@ fn all_letters(file: &[u8], at: usize, n: usize) -> bool
     !other
 }
 
-// A place from `from` on up to which all bytes are letters, by blocks of n: less than that is left, or the next block has another byte.
+// A place from `from` on up to which all bytes are letters, by blocks of n: less than that is left, or the next block
+// has another byte.
 pub fn after_letters(file: &[u8], from: usize, to: usize, n: usize) -> usize
     requires { ⌜ (from ≤ to) × (to ≤ length (now file)) × GoodText (now file) from to × (0 < n) × (n % 4 ≡ 0) ⌝ }
     ensures { λ r. ⌜ (from ≤ r) × (r ≤ to) × LettersOnly (now (file .entry)) from r × ((r - from) % 4 ≡ 0) ⌝ }
@@ -52,8 +54,8 @@ pub fn after_letters(file: &[u8], from: usize, to: usize, n: usize) -> usize
     i
 }
 
-// The six-bit number of a letter: '+' is 62, and the tests lead from it to '/', the digits, the large and the small letters. They
-// are no branches, so that many letters are taken at once.
+// The six-bit number of a letter: '+' is 62, and the tests lead from it to '/', the digits, the large and the small
+// letters. They are no branches, so that many letters are taken at once.
 fn number_of(b: u8) -> u8
     requires { ⌜ isLetter (symbol b) ≡ true ⌝ }
     ensures { λ r. ⌜ symbol b ≡ Letter r ⌝ }
@@ -77,7 +79,8 @@ fn number_of(b: u8) -> u8
 // The numbers of the n letters from at on, written to the front of numbers.
 pub fn numbers_of(file: &[u8], at: usize, n: usize, numbers: &mut [u8])
     requires { ⌜ (at + n ≤ length (now file)) × LettersOnly (now file) at (at + n) × (n ≤ length (now numbers)) ⌝ }
-    ensures { λ _. ⌜ now (numbers .exit) ≡ sets (now (numbers .entry)) 0 (sixes (slice at (at + n) (now (file .entry)))) ⌝ }
+    ensures { λ _. ⌜ now (numbers .exit) ≡ sets (now (numbers .entry)) 0
+        (sixes (slice at (at + n) (now (file .entry)))) ⌝ }
 {
     let mut j: usize = 0;
     while j < n {
@@ -89,7 +92,9 @@ pub fn numbers_of(file: &[u8], at: usize, n: usize, numbers: &mut [u8])
 // The place of the next letter, or to.
 pub fn next_place(file: &[u8], at: usize, to: usize) -> usize
     requires { ⌜ (at ≤ to) × (to ≤ length (now file)) × GoodText (now file) at to ⌝ }
-    ensures { λ r. ⌜ (at ≤ r) × (r ≤ to) × (sixes (slice at to (now (file .entry))) ≡ sixes (slice r to (now (file .entry)))) × (r < to → isLetter (symbol (getD (now (file .entry)) r 0)) ≡ true) ⌝ }
+    ensures { λ r. ⌜ (at ≤ r) × (r ≤ to) × (sixes (slice at to (now (file .entry)))
+        ≡ sixes (slice r to (now (file .entry)))) × (r < to → isLetter (symbol (getD (now (file .entry)) r 0))
+        ≡ true) ⌝ }
 {
     let mut i = at;
     while i < to {

@@ -8,7 +8,7 @@ ghost use Prim.Native.Nat.{_+_, _*_, _/_, _%_, _<_, _≤_};
 ghost use lib.ListN.{length, take, getD};
 ghost use lib.Seq.{sets};
 ghost use Rattle.cbf_format.specs.Base64.{symbol};
-ghost use Rattle.cbf_reader.specs.Classes.{isLetter};
+ghost use Rattle.cbf_lines.specs.Text.{isLetter};
 ghost use Rattle.cbf_text.specs.Letters.{groupOctets, joined};
 ghost use Rattle.cbf_text.specs.Texts.{GoodText, SixesOnly, Decodes, textOctets};
 
@@ -51,7 +51,8 @@ pub fn least(a: usize, b: usize) -> usize
 // Decodes letters that stand side by side, at most 128; how many they were.
 fn decode_run(file: &[u8], at: usize, to: usize, out: &mut [u8], from: usize) -> usize
     requires { ⌜ (at ≤ to) × (to ≤ length (now file)) × GoodText (now file) at to × (from ≤ length (now out)) ⌝ }
-    ensures { λ r. ⌜ (r % 4 ≡ 0) × Decodes (now (file .entry)) at to (now (out .entry)) from (now (out .exit)) (at + r) (from + r / 4 * 3) ⌝ }
+    ensures { λ r. ⌜ (r % 4 ≡ 0) × Decodes (now (file .entry)) at to (now (out .entry)) from (now (out .exit))
+        (at + r) (from + r / 4 * 3) ⌝ }
 {
     let end = at + least(to - at, least(128, (out.len() - from) / 3 * 4));
     let next = letters::after_letters(file, letters::after_letters(file, at, end, 16), end, 4);
@@ -64,8 +65,10 @@ fn decode_run(file: &[u8], at: usize, to: usize, out: &mut [u8], from: usize) ->
 
 // Decodes the next four letters, wherever they stand; the place after them.
 fn decode_group(file: &[u8], at: usize, to: usize, out: &mut [u8], from: usize) -> usize
-    requires { ⌜ (at < to) × (to ≤ length (now file)) × GoodText (now file) at to × (isLetter (symbol (getD (now file) at 0)) ≡ true) × (from + 3 ≤ length (now out)) ⌝ }
-    ensures { λ r. ⌜ (at < r) × Decodes (now (file .entry)) at to (now (out .entry)) from (now (out .exit)) r (from + 3) ⌝ }
+    requires { ⌜ (at < to) × (to ≤ length (now file)) × GoodText (now file) at to
+        × (isLetter (symbol (getD (now file) at 0)) ≡ true) × (from + 3 ≤ length (now out)) ⌝ }
+    ensures { λ r. ⌜ (at < r) × Decodes (now (file .entry)) at to (now (out .entry)) from (now (out .exit)) r
+        (from + 3) ⌝ }
 {
     let a = letters::next_letter(file, at, to);
     let b = letters::next_letter(file, a.next, to);
@@ -84,7 +87,8 @@ pub struct Decoded {
 // Decodes the text from at on to out from `from` on, until out has no room for a group more or no letter is left.
 pub fn decode(file: &[u8], at: usize, to: usize, out: &mut [u8], from: usize) -> Decoded
     requires { ⌜ (at ≤ to) × (to ≤ length (now file)) × GoodText (now file) at to × (from ≤ length (now out)) ⌝ }
-    ensures { λ r. ⌜ Decodes (now (file .entry)) at to (now (out .entry)) from (now (out .exit)) (r .at) (r .end) × ((length (now (out .entry)) < r .end + 3) ⊎ (textOctets (now (file .entry)) (r .at) to ≡ [])) ⌝ }
+    ensures { λ r. ⌜ Decodes (now (file .entry)) at to (now (out .entry)) from (now (out .exit)) (r .at) (r .end)
+        × ((length (now (out .entry)) < r .end + 3) ⊎ (textOctets (now (file .entry)) (r .at) to ≡ [])) ⌝ }
 {
     let mut i = at;
     let mut k = from;

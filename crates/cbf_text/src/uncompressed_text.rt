@@ -8,8 +8,9 @@ ghost use mathlib.Core.Path.{_≡_};
 ghost use mathlib.Core.List.{_++_};
 ghost use Prim.Native.Nat.{_*_, _≤_};
 ghost use lib.ListN.{length, take, drop};
+ghost use Rattle.cbf_answers.specs.Limits.{pixelLimit};
 ghost use Rattle.cbf_pixels.specs.Uncompressed.{octetsPer, unpackUncompressed};
-ghost use Rattle.cbf_pixels.specs.Answers.{pixelsOf};
+ghost use Rattle.cbf_pixels.specs.PixelCalls.{pixelsOf};
 ghost use Rattle.cbf_text.specs.Texts.{GoodText, textOctets};
 
 // Writes count uncompressed pixels from the text, whose octets are as many as the pixels take.
@@ -22,10 +23,13 @@ pub fn unpack_uncompressed(
     count: usize,
     out: &mut [i64],
 )
-    requires { ⌜ (from ≤ to) × (to ≤ length (now file)) × GoodText (now file) from to × (size ≤ length (textOctets (now file) from to)) × (size ≡ count * octetsPer kind) × (count ≤ 67108864) × (count ≤ length (now out)) ⌝ }
-    ensures { λ _. ⌜ now (out .exit) ≡ pixelsOf (unpackUncompressed kind count (take size (textOctets (now (file .entry)) from to))) ++ drop count (now (out .entry)) ⌝ }
+    requires { ⌜ (from ≤ to) × (to ≤ length (now file)) × GoodText (now file) from to
+        × (size ≤ length (textOctets (now file) from to)) × (size ≡ count * octetsPer kind) × (count ≤ pixelLimit)
+        × (count ≤ length (now out)) ⌝ }
+    ensures { λ _. ⌜ now (out .exit) ≡ pixelsOf (unpackUncompressed kind count
+        (take size (textOctets (now (file .entry)) from to))) ++ drop count (now (out .entry)) ⌝ }
 {
-    let width = cbf_pixels::octets_per(kind);
+    let width = cbf_unpack::octets_per(kind);
     let mut window = [0u8; 1536];
     let mut w = Window {
         at: from,
@@ -38,7 +42,7 @@ pub fn unpack_uncompressed(
         let v = text_window::refill(file, to, w, &mut window);
         let n = octets::least(count - k, v.have / width);
         let used = n * width;
-        cbf_pixels::unpack(
+        cbf_unpack::unpack(
             Compression::Uncompressed,
             kind,
             &window[..used],

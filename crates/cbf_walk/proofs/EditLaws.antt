@@ -1,4 +1,5 @@
--- Sections by number, before and after an edit: which stay as they are, where they start, and that the edited items are good. Assumes nothing.
+-- Sections by number, before and after an edit: which stay as they are, where they start, and that the edited items
+-- are good. Assumes nothing.
 use mathlib.Core.Path.{_≡_, refl, sym, ap, _∙_, subst}
 use mathlib.Core.Logic.{_≢_}
 use mathlib.Core.Option.{Option, none, some, Option·none-ne-some}
@@ -8,9 +9,11 @@ use native.Mathlib.Nat.{not-suc-le-zero, add-assoc, zero-add}
 use native.Mathlib.Omega.{arith}
 use lib.ListN.{length, take, drop, length-append, length-drop}
 use lib.Seq.{length-take-le, take-append-le, take-append-add, drop-append-add, drop-append-le, drop-at, take-at}
-use Rattle.cbf_walk.specs.Parsers.{ok, Parser, Tame, Moves, hd}
-use Rattle.cbf_walk.specs.Reading.{Item, good, readF, flat, Good}
-use Rattle.cbf_walk.specs.Edits.{nth, start, sections, edit, Spans, Lawful}
+use Rattle.cbf_walk.specs.Parsers.{ok, Parser, hd}
+use Rattle.cbf_walk.proofs.Tame.{Tame, Moves}
+use Rattle.cbf_walk.specs.Reading.{Item, good, readF, flat}
+use Rattle.cbf_walk.proofs.Good.{Good}
+use Rattle.cbf_walk.proofs.Edits.{nth, startOf, sectionCount, edit, Spans, Lawful}
 use Rattle.cbf_walk.proofs.ParserLaws.{hd-app}
 use Rattle.cbf_walk.proofs.ReadingLaws.{sound, complete}
 
@@ -38,57 +41,57 @@ module _ {St Info : Type 0} where
 
 module _ {St Info : Type 0} where
   -- there is an nth section exactly where n is below their count
-  pub nth-in : (its : List (Item St Info)) (n : ℕ) (i : Info) → nth n its ≡ some i → n < sections its
-  unfolding nth sections
+  pub nth-in : (its : List (Item St Info)) (n : ℕ) (i : Info) → nth n its ≡ some i → n < sectionCount its
+  unfolding nth sectionCount
   nth-in = by-items P (λ n i e. absurd (Option·none-ne-some i e)) (λ it its ih. ih) go
     where
       P : List (Item St Info) → Type 0
-      P its = (n : ℕ) (i : Info) → nth n its ≡ some i → n < sections its
+      P its = (n : ℕ) (i : Info) → nth n its ≡ some i → n < sectionCount its
 
       go : Section P
       go it a its ih zero i e = omega arith
       go it a its ih (suc n) i e = omega (arith, ih n i e)
 
-  pub nth-there : (its : List (Item St Info)) (n : ℕ) → n < sections its → (i : Info) × (nth n its ≡ some i)
-  unfolding nth sections
+  pub nth-there : (its : List (Item St Info)) (n : ℕ) → n < sectionCount its → (i : Info) × (nth n its ≡ some i)
+  unfolding nth sectionCount
   nth-there = by-items P (λ n h. absurd (not-suc-le-zero h)) (λ it its ih. ih) go
     where
       P : List (Item St Info) → Type 0
-      P its = (n : ℕ) → n < sections its → (i : Info) × (nth n its ≡ some i)
+      P its = (n : ℕ) → n < sectionCount its → (i : Info) × (nth n its ≡ some i)
 
       go : Section P
       go it a its ih zero h = (a, refl)
       go it a its ih (suc n) h = ih n (omega arith)
 
-  pub nth-past : (its : List (Item St Info)) (n : ℕ) → sections its ≤ n → nth n its ≡ none
-  unfolding nth sections
+  pub nth-past : (its : List (Item St Info)) (n : ℕ) → sectionCount its ≤ n → nth n its ≡ none
+  unfolding nth sectionCount
   nth-past = by-items P (λ n h. refl) (λ it its ih. ih) go
     where
       P : List (Item St Info) → Type 0
-      P its = (n : ℕ) → sections its ≤ n → nth n its ≡ none
+      P its = (n : ℕ) → sectionCount its ≤ n → nth n its ≡ none
 
       go : Section P
       go it a its ih zero h = absurd (not-suc-le-zero h)
       go it a its ih (suc n) h = ih n (omega arith)
 
   -- a section starts in the file; one past the last, at its end
-  pub start-in : (its : List (Item St Info)) (n : ℕ) → start n its ≤ length (flat its)
-  unfolding flat start
+  pub start-in : (its : List (Item St Info)) (n : ℕ) → startOf n its ≤ length (flat its)
+  unfolding flat startOf
   start-in = by-items P (λ n. omega arith) (λ it its ih n. omega (arith, ih n, length-append (it .bytes) (flat its))) go
     where
       P : List (Item St Info) → Type 0
-      P its = (n : ℕ) → start n its ≤ length (flat its)
+      P its = (n : ℕ) → startOf n its ≤ length (flat its)
 
       go : Section P
       go it a its ih zero = omega arith
       go it a its ih (suc n) = omega (arith, ih n, length-append (it .bytes) (flat its))
 
-  pub start-past : (its : List (Item St Info)) (n : ℕ) → sections its ≤ n → start n its ≡ length (flat its)
-  unfolding flat start sections
+  pub start-past : (its : List (Item St Info)) (n : ℕ) → sectionCount its ≤ n → startOf n its ≡ length (flat its)
+  unfolding flat startOf sectionCount
   start-past = by-items P (λ n h. refl) (λ it its ih n h. omega (arith, ih n h, length-append (it .bytes) (flat its))) go
     where
       P : List (Item St Info) → Type 0
-      P its = (n : ℕ) → sections its ≤ n → start n its ≡ length (flat its)
+      P its = (n : ℕ) → sectionCount its ≤ n → startOf n its ≡ length (flat its)
 
       go : Section P
       go it a its ih zero h = absurd (not-suc-le-zero h)
@@ -97,57 +100,57 @@ module _ {St Info : Type 0} where
   -- ---- items after items: what a loop that reads adds to what it has read
 
   module _ (more : List (Item St Info)) where
-    pub sections-append : (its : List (Item St Info)) → sections (its ++ more) ≡ sections its + sections more
-    unfolding sections
+    pub sections-append : (its : List (Item St Info)) → sectionCount (its ++ more) ≡ sectionCount its + sectionCount more
+    unfolding sectionCount
     sections-append = by-items P (omega arith) (λ it its ih. ih) go
       where
         P : List (Item St Info) → Type 0
-        P its = sections (its ++ more) ≡ sections its + sections more
+        P its = sectionCount (its ++ more) ≡ sectionCount its + sectionCount more
 
         go : Section P
         go it a its ih = omega (arith, ih)
 
-    pub nth-left : (its : List (Item St Info)) (n : ℕ) → n < sections its → nth n (its ++ more) ≡ nth n its
-    unfolding nth sections
+    pub nth-left : (its : List (Item St Info)) (n : ℕ) → n < sectionCount its → nth n (its ++ more) ≡ nth n its
+    unfolding nth sectionCount
     nth-left = by-items P (λ n h. absurd (not-suc-le-zero h)) (λ it its ih. ih) go
       where
         P : List (Item St Info) → Type 0
-        P its = (n : ℕ) → n < sections its → nth n (its ++ more) ≡ nth n its
+        P its = (n : ℕ) → n < sectionCount its → nth n (its ++ more) ≡ nth n its
 
         go : Section P
         go it a its ih zero h = refl
         go it a its ih (suc n) h = ih n (omega arith)
 
-    pub nth-right : (its : List (Item St Info)) (m n : ℕ) → m ≡ sections its + n → nth m (its ++ more) ≡ nth n more
-    unfolding nth sections
+    pub nth-right : (its : List (Item St Info)) (m n : ℕ) → m ≡ sectionCount its + n → nth m (its ++ more) ≡ nth n more
+    unfolding nth sectionCount
     nth-right = by-items P (λ m n h. let q : m ≡ n = omega arith in ap (λ (k : ℕ). nth k more) q) (λ it its ih. ih) go
       where
         P : List (Item St Info) → Type 0
-        P its = (m n : ℕ) → m ≡ sections its + n → nth m (its ++ more) ≡ nth n more
+        P its = (m n : ℕ) → m ≡ sectionCount its + n → nth m (its ++ more) ≡ nth n more
 
         go : Section P
         go it a its ih zero n h = absurd (omega arith)
         go it a its ih (suc m) n h = ih m n (omega arith)
 
-    pub start-left : (its : List (Item St Info)) (n : ℕ) → n < sections its → start n (its ++ more) ≡ start n its
-    unfolding start sections
+    pub start-left : (its : List (Item St Info)) (n : ℕ) → n < sectionCount its → startOf n (its ++ more) ≡ startOf n its
+    unfolding startOf sectionCount
     start-left = by-items P (λ n h. absurd (not-suc-le-zero h)) (λ it its ih n h. omega (arith, ih n h)) go
       where
         P : List (Item St Info) → Type 0
-        P its = (n : ℕ) → n < sections its → start n (its ++ more) ≡ start n its
+        P its = (n : ℕ) → n < sectionCount its → startOf n (its ++ more) ≡ startOf n its
 
         go : Section P
         go it a its ih zero h = refl
         go it a its ih (suc n) h = omega (arith, ih n (omega arith))
 
-    pub start-right : (its : List (Item St Info)) (m n : ℕ) → m ≡ sections its + n → start m (its ++ more) ≡ length (flat its) + start n more
-    unfolding flat start sections
+    pub start-right : (its : List (Item St Info)) (m n : ℕ) → m ≡ sectionCount its + n → startOf m (its ++ more) ≡ length (flat its) + startOf n more
+    unfolding flat startOf sectionCount
     start-right = by-items P
-        (λ m n h. let q : m ≡ n = omega arith in ap (λ (k : ℕ). start k more) q ∙ sym (zero-add _))
+        (λ m n h. let q : m ≡ n = omega arith in ap (λ (k : ℕ). startOf k more) q ∙ sym (zero-add _))
         (λ it its ih m n h. omega (arith, ih m n h, length-append (it .bytes) (flat its))) go
       where
         P : List (Item St Info) → Type 0
-        P its = (m n : ℕ) → m ≡ sections its + n → start m (its ++ more) ≡ length (flat its) + start n more
+        P its = (m n : ℕ) → m ≡ sectionCount its + n → startOf m (its ++ more) ≡ length (flat its) + startOf n more
 
         go : Section P
         go it a its ih zero n h = absurd (omega arith)
@@ -157,12 +160,12 @@ module _ {St Info : Type 0} where
 
 module _ {St Info : Type 0} (width : Info → ℕ) where
   -- a span ends before the next section starts
-  pub apart : (its : List (Item St Info)) (m n : ℕ) (i : Info) → m < n → nth m its ≡ some i → Spans width its → start m its + width i ≤ start n its
-  unfolding nth start Spans
+  pub apart : (its : List (Item St Info)) (m n : ℕ) (i : Info) → m < n → nth m its ≡ some i → Spans width its → startOf m its + width i ≤ startOf n its
+  unfolding nth startOf Spans
   apart = by-items P (λ m n i h e g. absurd (Option·none-ne-some i e)) (λ it its ih m n i h e g. omega (arith, ih m n i h e (g .1))) go
     where
       P : List (Item St Info) → Type 0
-      P its = (m n : ℕ) (i : Info) → m < n → nth m its ≡ some i → Spans width its → start m its + width i ≤ start n its
+      P its = (m n : ℕ) (i : Info) → m < n → nth m its ≡ some i → Spans width its → startOf m its + width i ≤ startOf n its
 
       go : Section P
       go it a its ih m zero i h e g = absurd (not-suc-le-zero h)
@@ -187,12 +190,12 @@ further b F E x k c h = rw (add-assoc (length b) k c, take-append-add, drop-appe
 
 module _ {St Info : Type 0} (width : Info → ℕ) (w : Info → List ℕ) (v : Info → Info) where
   -- as many sections as before
-  pub sections-edit : (its : List (Item St Info)) (n : ℕ) → sections (edit width w v n its) ≡ sections its
-  unfolding sections edit
+  pub sections-edit : (its : List (Item St Info)) (n : ℕ) → sectionCount (edit width w v n its) ≡ sectionCount its
+  unfolding sectionCount edit
   sections-edit = by-items P (λ n. refl) (λ it its ih. ih) go
     where
       P : List (Item St Info) → Type 0
-      P its = (n : ℕ) → sections (edit width w v n its) ≡ sections its
+      P its = (n : ℕ) → sectionCount (edit width w v n its) ≡ sectionCount its
 
       go : Section P
       go it a its ih zero = refl
@@ -224,12 +227,12 @@ module _ {St Info : Type 0} (width : Info → ℕ) (w : Info → List ℕ) (v : 
       go it a its ih (suc m) (suc n) h = ih m n (λ q. h (ap suc q))
 
   -- sections up to the edited one start where they did; those after it move by the change of length
-  pub start-before : (its : List (Item St Info)) (m n : ℕ) → m ≤ n → start m (edit width w v n its) ≡ start m its
-  unfolding start edit
+  pub start-before : (its : List (Item St Info)) (m n : ℕ) → m ≤ n → startOf m (edit width w v n its) ≡ startOf m its
+  unfolding startOf edit
   start-before = by-items P (λ m n h. refl) (λ it its ih m n h. omega (arith, ih m n h)) go
     where
       P : List (Item St Info) → Type 0
-      P its = (m n : ℕ) → m ≤ n → start m (edit width w v n its) ≡ start m its
+      P its = (m n : ℕ) → m ≤ n → startOf m (edit width w v n its) ≡ startOf m its
 
       go : Section P
       go it a its ih zero zero h = refl
@@ -238,12 +241,12 @@ module _ {St Info : Type 0} (width : Info → ℕ) (w : Info → List ℕ) (v : 
       go it a its ih (suc m) (suc n) h = omega (arith, ih m n (omega arith))
 
   pub start-after : (its : List (Item St Info)) (m n : ℕ) (i : Info) → n < m → nth n its ≡ some i → Spans width its
-      → start m (edit width w v n its) + width i ≡ start m its + length (w i)
-  unfolding nth start edit Spans
+      → startOf m (edit width w v n its) + width i ≡ startOf m its + length (w i)
+  unfolding nth startOf edit Spans
   start-after = by-items P (λ m n i h e g. absurd (Option·none-ne-some i e)) (λ it its ih m n i h e g. omega (arith, ih m n i h e (g .1))) go
     where
       P : List (Item St Info) → Type 0
-      P its = (m n : ℕ) (i : Info) → n < m → nth n its ≡ some i → Spans width its → start m (edit width w v n its) + width i ≡ start m its + length (w i)
+      P its = (m n : ℕ) (i : Info) → n < m → nth n its ≡ some i → Spans width its → startOf m (edit width w v n its) + width i ≡ startOf m its + length (w i)
 
       go : Section P
       go it a its ih zero n i h e g = absurd (not-suc-le-zero h)
@@ -256,22 +259,30 @@ module _ {St Info : Type 0} (width : Info → ℕ) (w : Info → List ℕ) (v : 
   pub length-edit : (its : List (Item St Info)) (n : ℕ) (i : Info) → nth n its ≡ some i → Spans width its
       → length (flat (edit width w v n its)) + width i ≡ length (flat its) + length (w i)
   length-edit its n i e g =
-      let m = sections its in
+      let m = sectionCount its in
       let l : n < m = nth-in its n i e in
-      omega (arith, l, sections-edit its n, start-past its m (omega arith), start-past (edit width w v n its) m (omega (arith, sections-edit its n)), start-after its m n i l e g)
+      omega (
+        arith,
+        l,
+        sections-edit its n,
+        start-past its m (omega arith),
+        start-past (edit width w v n its) m
+            (omega (arith, sections-edit its n)),
+        start-after its m n i l e g,
+      )
 
   -- the edited file: the bytes before the span, the new span, the bytes after the span
   pub flat-edit : (its : List (Item St Info)) (n : ℕ) (i : Info) → nth n its ≡ some i → Spans width its
-      → flat (edit width w v n its) ≡ take (start n its) (flat its) ++ (w i ++ drop (start n its + width i) (flat its))
-  unfolding flat nth start edit Spans
+      → flat (edit width w v n its) ≡ take (startOf n its) (flat its) ++ (w i ++ drop (startOf n its + width i) (flat its))
+  unfolding flat nth startOf edit Spans
   flat-edit = by-items P (λ n i e g. absurd (Option·none-ne-some i e)) plain go
     where
       P : List (Item St Info) → Type 0
       P its = (n : ℕ) (i : Info) → nth n its ≡ some i → Spans width its
-          → flat (edit width w v n its) ≡ take (start n its) (flat its) ++ (w i ++ drop (start n its + width i) (flat its))
+          → flat (edit width w v n its) ≡ take (startOf n its) (flat its) ++ (w i ++ drop (startOf n its + width i) (flat its))
 
       plain : Plain P
-      plain it its ih n i e g = further (it .bytes) (flat its) (flat (edit width w v n its)) (w i) (start n its) (width i) (ih n i e (g .1))
+      plain it its ih n i e g = further (it .bytes) (flat its) (flat (edit width w v n its)) (w i) (startOf n its) (width i) (ih n i e (g .1))
 
       go : Section P
       go it a its ih zero i e g = let q : a ≡ i = cc in append-assoc (w a) _ _ ∙ rw (zero-add, ← q, drop-append-le (width a) (it .bytes) (flat its) (g .0))
@@ -279,19 +290,19 @@ module _ {St Info : Type 0} (width : Info → ℕ) (w : Info → List ℕ) (v : 
 
   -- the edited section's span is the new one, and every other section's span is what it was
   pub span-same : (its : List (Item St Info)) (n : ℕ) (i : Info) → nth n its ≡ some i → Spans width its
-      → take (length (w i)) (drop (start n its) (flat (edit width w v n its))) ≡ w i
+      → take (length (w i)) (drop (startOf n its) (flat (edit width w v n its))) ≡ w i
   span-same its n i e g =
-      rw (flat-edit its n i e g, drop-at (take (start n its) (flat its)) _ (start n its) (length-take-le (start n its) (flat its) (start-in its n)))
+      rw (flat-edit its n i e g, drop-at (take (startOf n its) (flat its)) _ (startOf n its) (length-take-le (startOf n its) (flat its) (start-in its n)))
       (take-at (w i) _ (length (w i)) refl)
 
   pub span-other : (its : List (Item St Info)) (m n : ℕ) (j : Info) → m ≢ n → nth m its ≡ some j → Spans width its
-      → take (width j) (drop (start m (edit width w v n its)) (flat (edit width w v n its))) ≡ take (width j) (drop (start m its) (flat its))
-  unfolding flat nth start edit Spans
+      → take (width j) (drop (startOf m (edit width w v n its)) (flat (edit width w v n its))) ≡ take (width j) (drop (startOf m its) (flat its))
+  unfolding flat nth startOf edit Spans
   span-other = by-items P (λ m n j h e g. refl) (λ it its ih m n j h e g. simp drop-append-add (ih m n j h e (g .1))) go
     where
       P : List (Item St Info) → Type 0
       P its = (m n : ℕ) (j : Info) → m ≢ n → nth m its ≡ some j → Spans width its
-          → take (width j) (drop (start m (edit width w v n its)) (flat (edit width w v n its))) ≡ take (width j) (drop (start m its) (flat its))
+          → take (width j) (drop (startOf m (edit width w v n its)) (flat (edit width w v n its))) ≡ take (width j) (drop (startOf m its) (flat its))
 
       go : Section P
       go it a its ih zero zero j h e g = absurd (h refl)

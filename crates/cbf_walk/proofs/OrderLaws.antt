@@ -1,4 +1,5 @@
--- The file after one edit, and after two edits of two sections, whichever is edited first: bytes of the file exchanged. Assumes nothing.
+-- The file after one edit, and after two edits of two sections, whichever is edited first: bytes of the file
+-- exchanged. Assumes nothing.
 use mathlib.Core.Path.{_≡_, refl, sym, ap, _∙_, subst, subst₂}
 use mathlib.Core.Logic.{_≢_}
 use mathlib.Core.Option.{some, Option·none-ne-some}
@@ -12,35 +13,47 @@ use borrow.Author.Tests.{ltb-true, ltb-false}
 use lib.ListN.{length, take, drop, length-append}
 use lib.Seq.{slice, take-append-add, drop-append-add, drop-append-le, take-at, drop-at, length-take-le, length-slice}
 use Rattle.cbf_walk.specs.Reading.{Item, flat}
-use Rattle.cbf_walk.specs.Edits.{nth, start, edit, Spans, exchange, exchangeTwo, exchangeBoth}
-use Rattle.cbf_walk.proofs.EditLaws.{Plain, Section, by-items, start-in, start-before, start-after, apart, flat-edit, edit-comm}
+use Rattle.cbf_walk.proofs.Edits.{nth, startOf, edit, Spans}
+use Rattle.cbf_walk.specs.Exchange.{exchange, exchangeTwo, exchangeBoth}
+use Rattle.cbf_walk.proofs.EditLaws.{Plain, Section, by-items, start-in, start-before, start-after, apart}
+use Rattle.cbf_walk.proofs.EditLaws.{flat-edit, edit-comm}
 
 -- the same exchanges, with bytes before
 further-two : (b F E x y : List ℕ) (k c k′ c′ : ℕ) → E ≡ exchangeTwo F k c x k′ c′ y → b ++ E ≡ exchangeTwo (b ++ F) (length b + k) c x (length b + k′) c′ y
 unfolding exchangeTwo
 further-two b F E x y k c k′ c′ h =
-    rw (add-assoc (length b) k c, add-assoc (length b) k′ c′, take-append-add b F k, take-append-add b F k′, drop-append-add b (take k′ F) (k + c), drop-append-add, h) (sym (append-assoc b _ _))
+    rw (
+      add-assoc (length b) k c,
+      add-assoc (length b) k′ c′,
+      take-append-add b F k,
+      take-append-add b F k′,
+      drop-append-add b (take k′ F) (k + c),
+      drop-append-add,
+      h,
+    ) (sym (append-assoc b _ _))
 
 module _ {St Info : Type 0} (width : Info → ℕ) (w : Info → List ℕ) (v : Info → Info) where
   -- the file after one edit
   pub edit-exchange : (its : List (Item St Info)) (n : ℕ) (i : Info) → nth n its ≡ some i → Spans width its
-      → flat (edit width w v n its) ≡ exchange (flat its) (start n its) (width i) (w i)
+      → flat (edit width w v n its) ≡ exchange (flat its) (startOf n its) (width i) (w i)
   unfolding exchange
   edit-exchange its n i e g = flat-edit width w v its n i e g
 
   -- the file after two edits, of which the second is of the section that stands first
-  edits-exchange-two : (w′ : Info → List ℕ) (v′ : Info → Info) (its : List (Item St Info)) (m n : ℕ) (i j : Info) → m < n → nth m its ≡ some i → nth n its ≡ some j
-      → Spans width its → flat (edit width w v m (edit width w′ v′ n its)) ≡ exchangeTwo (flat its) (start m its) (width i) (w i) (start n its) (width j) (w′ j)
-  unfolding flat nth start edit Spans exchangeTwo
+  edits-exchange-two : (w′ : Info → List ℕ) (v′ : Info → Info) (its : List (Item St Info)) (m n : ℕ) (i j : Info)
+      → m < n → nth m its ≡ some i → nth n its ≡ some j
+      → Spans width its → flat (edit width w v m (edit width w′ v′ n its)) ≡ exchangeTwo (flat its) (startOf m its)
+      (width i) (w i) (startOf n its) (width j) (w′ j)
+  unfolding flat nth startOf edit Spans exchangeTwo
   edits-exchange-two w′ v′ = by-items P (λ m n i j h e e′ g. absurd (Option·none-ne-some i e)) plain go
     where
       P : List (Item St Info) → Type 0
       P its = (m n : ℕ) (i j : Info) → m < n → nth m its ≡ some i → nth n its ≡ some j → Spans width its
-          → flat (edit width w v m (edit width w′ v′ n its)) ≡ exchangeTwo (flat its) (start m its) (width i) (w i) (start n its) (width j) (w′ j)
+          → flat (edit width w v m (edit width w′ v′ n its)) ≡ exchangeTwo (flat its) (startOf m its) (width i) (w i) (startOf n its) (width j) (w′ j)
 
       plain : Plain P
       plain it its ih m n i j h e e′ g =
-          further-two (it .bytes) (flat its) (flat (edit width w v m (edit width w′ v′ n its))) (w i) (w′ j) (start m its) (width i) (start n its) (width j)
+          further-two (it .bytes) (flat its) (flat (edit width w v m (edit width w′ v′ n its))) (w i) (w′ j) (startOf m its) (width i) (startOf n its) (width j)
           (ih m n i j h e e′ (g .1))
 
       go : Section P
@@ -52,17 +65,17 @@ module _ {St Info : Type 0} (width : Info → ℕ) (w : Info → List ℕ) (v : 
           ∙ rw (
             ← q,
             zero-add,
-            add-assoc (length (it .bytes)) (start n its) (width j),
+            add-assoc (length (it .bytes)) (startOf n its) (width j),
             take-append-add,
             drop-append-add,
-            drop-append-le (width a) (it .bytes) (take (start n its) F) (g .0),
+            drop-append-le (width a) (it .bytes) (take (startOf n its) F) (g .0),
             flat-edit width w′ v′ its n j e′ (g .1),
           )
-          (ap (λ (z : List ℕ). w a ++ z) (sym (append-assoc (drop (width a) (it .bytes)) (take (start n its) F) _)))
+          (ap (λ (z : List ℕ). w a ++ z) (sym (append-assoc (drop (width a) (it .bytes)) (take (startOf n its) F) _)))
       go it a its ih (suc m) (suc n) i j h e e′ g = plain it its ih m n i j (omega arith) e e′ (tt, g .1)
 
--- two spans of a file, k bytes at p and k′ bytes at p′, and of a new file, K bytes at P and K′ bytes at P′: they stand in
--- this order and apart in both, and every byte before, between and behind them is the same
+-- two spans of a file, k bytes at p and k′ bytes at p′, and of a new file, K bytes at P and K′ bytes at P′: they
+-- stand in this order and apart in both, and every byte before, between and behind them is the same
 pub record SameOutside (file : List ℕ) (p k p′ k′ : ℕ) (new : List ℕ) (P K P′ K′ : ℕ) : Type 0 where
   pub in-order : p + k ≤ p′
   pub new-order : P + K ≤ P′
@@ -103,34 +116,34 @@ module _ {St Info : Type 0} (width : Info → ℕ) where
   edits-same : (w : Info → List ℕ) (v : Info → Info) (w′ : Info → List ℕ) (v′ : Info → Info) (its : List (Item St Info))
       (m n : ℕ) (i j : Info) → m < n → nth m its ≡ some i → nth n its ≡ some j → Spans width its
       → let t = edit width w v m (edit width w′ v′ n its) in
-      SameOutside (flat its) (start m its) (width i) (start n its) (width j)
-      (flat t) (start m t) (length (w i)) (start n t) (length (w′ j))
+      SameOutside (flat its) (startOf m its) (width i) (startOf n its) (width j)
+      (flat t) (startOf m t) (length (w i)) (startOf n t) (length (w′ j))
   edits-same w v w′ v′ its m n i j h e e′ g =
       let u = edit width w′ v′ n its in
       let t = edit width w v m u in
-      let near : start m t ≡ start m its =
+      let near : startOf m t ≡ startOf m its =
       start-before width w v u m m (omega arith) ∙ start-before width w′ v′ its m n (omega arith) in
-      let same : start n t ≡ start n (edit width w v m its) =
-      ap (start n) (edit-comm width w v w′ v′ its m n (λ z. omega arith))
+      let same : startOf n t ≡ startOf n (edit width w v m its) =
+      ap (startOf n) (edit-comm width w v w′ v′ its m n (λ z. omega arith))
       ∙ start-before width w′ v′ (edit width w v m its) n n (omega arith) in
-      let far : start n t + width i ≡ start n its + length (w i) =
+      let far : startOf n t + width i ≡ startOf n its + length (w i) =
       omega (arith, same, start-after width w v its n m i h e g) in
       subst₂ (λ (file : List ℕ) (P : ℕ).
-      SameOutside (flat its) (start m its) (width i) (start n its) (width j) file P (length (w i)) (start n t) (length (w′ j)))
+      SameOutside (flat its) (startOf m its) (width i) (startOf n its) (width j) file P (length (w i)) (startOf n t) (length (w′ j)))
       (sym (edits-exchange-two width w v w′ v′ its m n i j h e e′ g)) (sym near)
-      (exchange-same (flat its) (w i) (w′ j) (start m its) (width i) (start n its) (width j) (start n t)
+      (exchange-same (flat its) (w i) (w′ j) (startOf m its) (width i) (startOf n its) (width j) (startOf n t)
       (apart width its m n i h e g) (start-in its n) far)
 
   module _ (w : Info → List ℕ) (v : Info → Info) (w′ : Info → List ℕ) (v′ : Info → Info) (its : List (Item St Info))
       (m n : ℕ) (i j : Info) (h : m ≢ n) (e : nth m its ≡ some i) (e′ : nth n its ≡ some j) (g : Spans width its) where
     -- the file after two edits of two sections
     pub edits-exchange : flat (edit width w v m (edit width w′ v′ n its))
-        ≡ exchangeBoth (ltb m n) (flat its) (start m its) (width i) (w i) (start n its) (width j) (w′ j)
+        ≡ exchangeBoth (ltb m n) (flat its) (startOf m its) (width i) (w i) (startOf n its) (width j) (w′ j)
     unfolding exchangeBoth
     edits-exchange = go (ltb m n) refl
       where
         go : (b : Bool) → ltb m n ≡ b → flat (edit width w v m (edit width w′ v′ n its))
-            ≡ exchangeBoth b (flat its) (start m its) (width i) (w i) (start n its) (width j) (w′ j)
+            ≡ exchangeBoth b (flat its) (startOf m its) (width i) (w i) (startOf n its) (width j) (w′ j)
         go true q = edits-exchange-two width w v w′ v′ its m n i j (ltb-true m n q) e e′ g
         go false q =
             ap flat (edit-comm width w v w′ v′ its m n h)
@@ -138,20 +151,20 @@ module _ {St Info : Type 0} (width : Info → ℕ) where
 
     -- what is outside the two spans of that file, where they stand now, is what was outside them before
     pub edits-outside : let t = edit width w v m (edit width w′ v′ n its) in
-        SameOutsideBoth (ltb m n) (flat its) (start m its) (width i) (start n its) (width j)
-        (flat t) (start m t) (length (w i)) (start n t) (length (w′ j))
+        SameOutsideBoth (ltb m n) (flat its) (startOf m its) (width i) (startOf n its) (width j)
+        (flat t) (startOf m t) (length (w i)) (startOf n t) (length (w′ j))
     edits-outside = go (ltb m n) refl
       where
         t : List (Item St Info)
         t = edit width w v m (edit width w′ v′ n its)
 
         go : (b : Bool) → ltb m n ≡ b
-            → SameOutsideBoth b (flat its) (start m its) (width i) (start n its) (width j)
-            (flat t) (start m t) (length (w i)) (start n t) (length (w′ j))
+            → SameOutsideBoth b (flat its) (startOf m its) (width i) (startOf n its) (width j)
+            (flat t) (startOf m t) (length (w i)) (startOf n t) (length (w′ j))
         go true q = edits-same w v w′ v′ its m n i j (ltb-true m n q) e e′ g
         go false q =
             subst (λ (z : List (Item St Info)).
-            SameOutside (flat its) (start n its) (width j) (start m its) (width i)
-            (flat z) (start n z) (length (w′ j)) (start m z) (length (w i)))
+            SameOutside (flat its) (startOf n its) (width j) (startOf m its) (width i)
+            (flat z) (startOf n z) (length (w′ j)) (startOf m z) (length (w i)))
             (sym (edit-comm width w v w′ v′ its m n h))
             (edits-same w′ v′ w v its n m j i (omega (arith, ltb-false m n q)) e′ e g)

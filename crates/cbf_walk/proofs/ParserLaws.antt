@@ -6,7 +6,9 @@ use Prim.Native.Nat.{ℕ, _+_, _≤_}
 use native.Mathlib.Omega.{arith}
 use lib.ListN.{length, take, drop, length-drop, take-append-drop}
 use lib.Seq.{length-take-le, drop-append-le, drop-at}
-use Rattle.cbf_walk.specs.Parsers.{Res, bad, cut, ok, Parser, hd, ret, plus, counted, screenOr, screen, blame, onward, then, bind, Tame, Moves}
+use Rattle.cbf_walk.specs.Parsers.{Res, bad, cut, ok, Parser, hd, ret, plus, counted, screenOr, screen, blame}
+use Rattle.cbf_walk.specs.Parsers.{onward, then, bind}
+use Rattle.cbf_walk.proofs.Tame.{Tame, Moves}
 
 pub hd-app : (b r r′ : List ℕ) → hd r ≡ hd r′ → hd (b ++ r) ≡ hd (b ++ r′)
 hd-app [] r r′ e = e
@@ -71,10 +73,13 @@ module _ {A B : Type 0} (p : Parser A) (f : A → Parser B) where
           let k≤ : k ≤ length b = omega (arith, u .sum) in
           let lt : length (take k b) ≡ k = length-take-le k b k≤ in
           let ld : length (drop k b) ≡ u .second = length-drop k b ∙ omega (arith, u .sum) in
-          let s₁ : (q : List ℕ) → take k b ++ (drop k b ++ q) ≡ b ++ q = λ q. sym (append-assoc (take k b) (drop k b) q) ∙ ap (λ (l : List ℕ). l ++ q) (take-append-drop k b) in
+          let s₁ : (q : List ℕ) → take k b ++ (drop k b ++ q) ≡ b ++ q = λ q. sym (append-assoc (take k b) (drop k b)
+          q) ∙ ap (λ (l : List ℕ). l ++ q) (take-append-drop k b) in
           let d₁ : p (take k b ++ (drop k b ++ r)) ≡ ok (u .val) (length (take k b)) = ap p (s₁ r) ∙ u .did ∙ ap (λ (j : ℕ). ok (u .val) j) (sym lt) in
-          let d₂ : p (take k b ++ (drop k b ++ r′)) ≡ ok (u .val) (length (take k b)) = tp .near (take k b) (drop k b ++ r) (drop k b ++ r′) (u .val) (hd-app (drop k b) r r′ e) d₁ in
-          let f₁ : f (u .val) (drop k b ++ r) ≡ ok c (length (drop k b)) = ap (f (u .val)) (sym (drop-append-le k b r k≤)) ∙ u .then-did ∙ ap (λ (j : ℕ). ok c j) (sym ld) in
+          let d₂ : p (take k b ++ (drop k b ++ r′)) ≡ ok (u .val) (length (take k b)) = tp .near (take k b) (drop k b
+          ++ r) (drop k b ++ r′) (u .val) (hd-app (drop k b) r r′ e) d₁ in
+          let f₁ : f (u .val) (drop k b ++ r) ≡ ok c (length (drop k b)) = ap (f (u .val))
+          (sym (drop-append-le k b r k≤)) ∙ u .then-did ∙ ap (λ (j : ℕ). ok c j) (sym ld) in
           let f₂ : f (u .val) (drop k b ++ r′) ≡ ok c (length (drop k b)) = tf (u .val) .near (drop k b) r r′ c e f₁ in
           ap (bind p f) (sym (s₁ r′)) ∙ bind-ok (take k b) (drop k b ++ r′) d₂ f₂ ∙ ap (λ (j : ℕ). ok c j) (omega (arith, lt, ld, u .sum))
 

@@ -1,4 +1,5 @@
--- Which numbers a parser refuses with, and that the place lies in its bytes: for each combinator, and for reading. Assumes nothing.
+-- Which numbers a parser refuses with, and that the place lies in its bytes: for each combinator, and for reading.
+-- Assumes nothing.
 use mathlib.Core.Path.{_≡_, refl, subst}
 use mathlib.Core.Option.{Option, none, some}
 use mathlib.Core.Bool.{Bool, true, false, cond}
@@ -6,7 +7,9 @@ use mathlib.Core.List.{List, [], _∷_}
 use Prim.Native.Nat.{ℕ, zero, suc, _+_, _≤_}
 use native.Mathlib.Omega.{arith}
 use lib.ListN.{length, take, drop, length-drop}
-use Rattle.cbf_walk.specs.Parsers.{Res, bad, cut, ok, Parser, ret, plus, counted, screenOr, screen, blame, onward, then, bind, Tame}
+use Rattle.cbf_walk.specs.Parsers.{Res, bad, cut, ok, Parser, ret, plus, counted, screenOr, screen, blame}
+use Rattle.cbf_walk.specs.Parsers.{onward, then, bind}
+use Rattle.cbf_walk.proofs.Tame.{Tame}
 use Rattle.cbf_walk.specs.Reading.{Item, Reading, refused, good, cons, late, broke, turn, readF}
 use Rattle.cbf_walk.proofs.ParserLaws.{unbind}
 

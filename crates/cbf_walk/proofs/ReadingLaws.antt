@@ -1,4 +1,5 @@
--- Reading gives items exactly where they are good and put together are the file; and what a loop that reads needs. Assumes nothing.
+-- Reading gives items exactly where they are good and put together are the file; and what a loop that reads needs.
+-- Assumes nothing.
 use mathlib.Core.Path.{_≡_, refl, sym, ap, _∙_, subst}
 use mathlib.Core.Option.{Option, none, some}
 use mathlib.Core.List.{List, [], _∷_, _++_, append-assoc, append-nil}
@@ -7,8 +8,11 @@ use native.Mathlib.Nat.{not-suc-le-zero}
 use native.Mathlib.Omega.{arith}
 use lib.ListN.{length, take, drop, getD, length-append, length-drop, take-append-drop, drop-of-length-le}
 use lib.Seq.{length-take-le, drop-at, take-at, drop-cons, drop-drop, take-add}
-use Rattle.cbf_walk.specs.Parsers.{Res, bad, cut, ok, Parser, hd, Tame, Moves}
-use Rattle.cbf_walk.specs.Reading.{Item, Reading, refused, good, cons, flat, late, broke, turn, readF, Good, onto, itemAt, from as fromOf, Reached as ReachedOf}
+use Rattle.cbf_walk.specs.Parsers.{Res, bad, cut, ok, Parser, hd}
+use Rattle.cbf_walk.proofs.Tame.{Tame, Moves}
+use Rattle.cbf_walk.specs.Reading.{Item, Reading, refused, good, cons, flat, late, broke, turn, readF, onto}
+use Rattle.cbf_walk.specs.Reading.{from as fromOf, Reached as ReachedOf}
+use Rattle.cbf_walk.proofs.Good.{Good, itemAt}
 use Rattle.cbf_walk.proofs.ParserLaws.{hd-app}
 
 pub refused≢good : {A : Type 0} {k p : ℕ} {l : List A} → refused k p ≡ good l → ⊥
@@ -65,7 +69,8 @@ module _ {St Info : Type 0} (ended : ℕ) (step : St → Parser (Option Info × 
   step-read f off st (x ∷ b) r o h e = rw e (rw (take-at (x ∷ b) r (length (x ∷ b)) refl, drop-at (x ∷ b) r (length (x ∷ b)) refl))
 
   -- good items are what reading gives of their bytes
-  pub complete : (its : List (Item St Info)) (f off : ℕ) (st : St) → Good step due st its → length (flat its) ≤ f → readF ended step due f off st (flat its) ≡ good its
+  pub complete : (its : List (Item St Info)) (f off : ℕ) (st : St) → Good step due st its → length (flat its) ≤ f
+      → readF ended step due f off st (flat its) ≡ good its
   unfolding flat Good
   complete [] f off st g h = end-read f off st ∙ ap (late ended off) g
   complete (it ∷ its) zero off st g h = absurd (omega (arith, length-append (it .bytes) (flat its), h, g .1))
@@ -125,7 +130,8 @@ module _ {St Info : Type 0} (ended : ℕ) (step : St → Parser (Option Info × 
           ((ap (step st) whole ∙ q ∙ ap (λ (k : ℕ). ok o k) (sym l), omega (arith, l, moves st x xs o n q), i .0), whole)
 
       -- what reading gives is good items, which put together are the file
-      pub sound : (f off : ℕ) (st : St) (s : List ℕ) (its : List (Item St Info)) → readF ended step due f off st s ≡ good its → Good step due st its × (flat its ≡ s)
+      pub sound : (f off : ℕ) (st : St) (s : List ℕ) (its : List (Item St Info)) → readF ended step due f off st s
+          ≡ good its → Good step due st its × (flat its ≡ s)
       unfolding readF Says
       sound zero off st [] its e = at-end off st (due st) refl its e
       sound zero off st (x ∷ xs) its e = absurd (refused≢good e)
@@ -235,7 +241,8 @@ module _ {St Info : Type 0} (ended : ℕ) (step : St → Parser (Option Info × 
           go none = onto-refused done ended at
           go (some d) = onto-refused done ended (at - d)
 
-      pub reached-ok : at < length s → (o : Option Info × St) (n : ℕ) → step st (drop at s) ≡ ok o n → Reached st₀ (done ++ (itemAt s at o n ∷ [])) (at + n) (o .1)
+      pub reached-ok : at < length s → (o : Option Info × St) (n : ℕ) → step st (drop at s) ≡ ok o n
+          → Reached st₀ (done ++ (itemAt s at o n ∷ [])) (at + n) (o .1)
       unfolding flat
       reached-ok more o n e = record {
         so-far = r .so-far ∙ ap (onto done) (from-ok more o n e) ∙ onto-more done (itemAt s at o n) (from (at + n) (o .1));

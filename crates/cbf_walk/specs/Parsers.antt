@@ -1,9 +1,9 @@
--- Parsers on the bytes from some place on, with relative counts and places, and the combinators that a format is written in.
-use mathlib.Core.Path.{_≡_}
+-- Parsers on the bytes from some place on, with relative counts and places, and the combinators that a format is
+-- written in.
 use mathlib.Core.Option.{Option, none, some}
-use mathlib.Core.List.{List, [], _∷_, _++_}
-use Prim.Native.Nat.{ℕ, _+_, _≤_, _<_}
-use lib.ListN.{length, drop}
+use mathlib.Core.List.{List, [], _∷_}
+use Prim.Native.Nat.{ℕ, _+_}
+use lib.ListN.{drop}
 
 -- bad k p: refusal k, p bytes on; cut: the bytes end inside; ok a n: a, read from the first n bytes
 pub data Res (A : Type 0) : Type 0 where
@@ -66,13 +66,3 @@ module _ {A B : Type 0} where
   -- one parser, then the one that its value gives, on the bytes that are left
   abbrev pub bind : Parser A → (A → Parser B) → Parser B
   bind p f s = then (p s) f s
-
--- What a successful parser did depends on the bytes that it took and at most on the one byte after them: it takes no more
--- bytes than there are, and before any other bytes r′ that begin as r does, it takes the same bytes b to the same value.
-pub record Tame {A : Type 0} (p : Parser A) : Type 0 where
-  pub within : (s : List ℕ) (a : A) (n : ℕ) → p s ≡ ok a n → n ≤ length s
-  pub near : (b r r′ : List ℕ) (a : A) → hd r ≡ hd r′ → p (b ++ r) ≡ ok a (length b) → p (b ++ r′) ≡ ok a (length b)
-
--- a successful parser took at least one byte, where there was one
-abbrev pub Moves : {A : Type 0} → Parser A → Type 0
-Moves {A} p = (x : ℕ) (xs : List ℕ) (a : A) (n : ℕ) → p (x ∷ xs) ≡ ok a n → 0 < n

@@ -1,8 +1,9 @@
--- Reading a file step by step, for any step: the items that were read, each with the very bytes that its step took, or a refusal.
+-- Reading a file step by step, for any step: the items that were read, each with the very bytes that its step took,
+-- or a refusal.
 use mathlib.Core.Path.{_≡_}
 use mathlib.Core.Option.{Option, none, some}
 use mathlib.Core.List.{List, [], _∷_, _++_}
-use Prim.Native.Nat.{ℕ, zero, suc, _+_, _-_, _<_, _≤_}
+use Prim.Native.Nat.{ℕ, zero, suc, _+_, _-_, _≤_}
 use lib.ListN.{length, take, drop}
 use Rattle.cbf_walk.specs.Parsers.{Res, bad, cut, ok, Parser}
 
@@ -27,7 +28,8 @@ unfoldable pub flat : {St Info : Type 0} → List (Item St Info) → List ℕ
 flat [] = []
 flat (it ∷ its) = it .bytes ++ flat its
 
--- `ended` is the refusal of a file that ends too early. A state in which the file may not end has something open: `due` says how many bytes back it began.
+-- `ended` is the refusal of a file that ends too early. A state in which the file may not end has something open:
+-- `due` says how many bytes back it began.
 module _ {St Info : Type 0} (ended : ℕ) where
   -- the file ends after a step
   abbrev pub late : ℕ → Option ℕ → Reading (Item St Info)
@@ -45,19 +47,14 @@ module _ {St Info : Type 0} (ended : ℕ) where
   turn off d s cut go = broke off d
   turn off d s (ok o n) go = cons (record { bytes = take n s; info = o .0; next = o .1 }) (go (off + n) (o .1) (drop n s))
 
-  -- read the bytes from the place `off` on, in a state. The first number bounds the steps. With as many steps as bytes the second line is never
-  -- the answer, where each step moves: more steps then change nothing (`fuel` in the laws).
+  -- read the bytes from the place `off` on, in a state. The first number bounds the steps. With as many steps as
+  -- bytes the second line is never the answer, where each step moves: more steps then change nothing (`fuel` in the
+  -- laws).
   unfoldable pub readF : (St → Parser (Option Info × St)) → (St → Option ℕ) → ℕ → ℕ → St → List ℕ → Reading (Item St Info)
   readF step due zero off st [] = late off (due st)
   readF step due zero off st (x ∷ xs) = refused ended 0
   readF step due (suc f) off st [] = late off (due st)
   readF step due (suc f) off st (x ∷ xs) = turn off (due st) (x ∷ xs) (step st (x ∷ xs)) (λ o t s. readF step due f o t s)
-
--- the items are what stepping from a state gives
-unfoldable pub Good : {St Info : Type 0} → (St → Parser (Option Info × St)) → (St → Option ℕ) → St → List (Item St Info) → Type 0
-Good step due st [] = due st ≡ none
-Good step due st (it ∷ its) =
-    (step st (it .bytes ++ flat its) ≡ ok (it .info, it .next) (length (it .bytes))) × (0 < length (it .bytes)) × Good step due (it .next) its
 
 -- ---- a loop that reads: the whole file s, a place `at` in it, and a bound f that is never met
 
@@ -65,10 +62,6 @@ Good step due st (it ∷ its) =
 unfoldable pub onto : {A : Type 0} → List A → Reading A → Reading A
 onto [] r = r
 onto (a ∷ l) r = cons a (onto l r)
-
--- the item of a step that took n bytes at `at`
-abbrev pub itemAt : {St Info : Type 0} → List ℕ → ℕ → Option Info × St → ℕ → Item St Info
-itemAt s at o n = record { bytes = take n (drop at s); info = o .0; next = o .1 }
 
 module _ {St Info : Type 0} (ended : ℕ) (step : St → Parser (Option Info × St)) (due : St → Option ℕ) (f : ℕ) (s : List ℕ) where
   -- what reading on from `at` gives

@@ -61,7 +61,8 @@ digit-put out at k rest =
 
 -- ---- counting the digits
 
--- k digits of n are counted, the first of them as the last digit of rest; n has at most limit digits, and left more can come
+-- k digits of n are counted, the first of them as the last digit of rest; n has at most limit digits, and left more
+-- can come
 pub record Counted (limit n k rest : ℕ) : Type 0 where
   pub left : ℕ
   pub enough : k + left ≡ limit

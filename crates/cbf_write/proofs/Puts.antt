@@ -1,4 +1,5 @@
--- Runs of stores: one that follows another or is put over it, a store that comes before or after one, and a text that is written or only measured. Assumes nothing.
+-- Runs of stores: one that follows another or is put over it, a store that comes before or after one, and a text that
+-- is written or only measured. Assumes nothing.
 use mathlib.Core.Path.{_≡_, refl, ap, _∙_, sym}
 use mathlib.Core.Bool.{Bool, true, false}
 use mathlib.Core.List.{List, [], _∷_, _++_}
@@ -8,7 +9,8 @@ use native.Mathlib.Omega.{arith}
 use lib.ListN.{length, length-append, length-drop, set, take, drop, getD}
 use lib.Dec.{eqb}
 use borrow.Author.Tests.{eqb-true, eqb-false}
-use lib.Seq.{sets, length-sets, set-set, set-comm, take-suc, take-add, take-all, length-take-le, getD-drop, getD-set-same, getD-set-other}
+use lib.Seq.{sets, length-sets, set-set, set-comm, take-suc, take-add, take-all, length-take-le, getD-drop}
+use lib.Seq.{getD-set-same, getD-set-other}
 
 -- stores keep the length, so two lists that stores make equal are as long as each other
 pub puts-length : (new old a b : List ℕ) (at : ℕ) → sets new at a ≡ sets old at b → length new ≡ length old
@@ -47,7 +49,8 @@ sets-take old s at i h =
     ∙ ap (λ (l : List ℕ). sets old at l) (sym (take-suc s i 0 h))
 
 -- and of one that copies the part of s from i on
-pub sets-part : (old s : List ℕ) (at i j : ℕ) → i + j < length s → set (sets old at (take j (drop i s))) (at + j) (getD s (i + j) 0) ≡ sets old at (take (suc j) (drop i s))
+pub sets-part : (old s : List ℕ) (at i j : ℕ) → i + j < length s → set (sets old at (take j (drop i s))) (at + j)
+    (getD s (i + j) 0) ≡ sets old at (take (suc j) (drop i s))
 sets-part old s at i j h =
     ap (λ (x : ℕ). set (sets old at (take j (drop i s))) (at + j) x) (sym (getD-drop i s j 0)) ∙ sets-take old (drop i s) at j (omega (arith, length-drop i s))
 
@@ -100,7 +103,8 @@ sets-over old [] [] c at e = refl
 sets-over old [] (y ∷ b) c at e = absurd (omega arith)
 sets-over old (x ∷ a) [] c at e = absurd (omega arith)
 sets-over old (x ∷ a) (y ∷ b) c at e =
-    ap (λ (l : List ℕ). sets l (suc at) b) (set-before (set old at x) (a ++ c) at (suc at) y (omega arith) ∙ ap (λ (l : List ℕ). sets l (suc at) (a ++ c)) (set-set old at x y))
+    ap (λ (l : List ℕ). sets l (suc at) b) (set-before (set old at x) (a ++ c) at (suc at) y (omega arith)
+    ∙ ap (λ (l : List ℕ). sets l (suc at) (a ++ c)) (set-set old at x y))
     ∙ sets-over (set old at y) a b c (suc at) (omega arith)
 
 -- ---- a text that is written, or only measured

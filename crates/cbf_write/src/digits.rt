@@ -1,9 +1,9 @@
 // Numbers as decimal digits without leading zeros.
 ghost use mathlib.Core.Path.{_≡_};
-ghost use Prim.Native.Nat.{ℕ, suc, _+_, _≤_, _<_, _^_};
+ghost use Prim.Native.Nat.{_+_, _≤_, _<_};
 ghost use lib.ListN.{length};
 ghost use lib.Seq.{sets};
-ghost use Rattle.cbf_format.specs.Listing.{digitsOf, printed};
+ghost use Rattle.cbf_format.specs.Listing.{printed};
 
 // How many digits the number has.
 pub fn digit_count(n: u64) -> usize

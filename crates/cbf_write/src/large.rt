@@ -4,8 +4,8 @@ ghost use Prim.Native.Nat.{_+_, _≤_};
 ghost use lib.ListN.{length, take, drop};
 ghost use lib.Seq.{sets};
 
-// The bytes that are copied at once: many, since memmove writes past the processor's caches only where it is given much, and few enough for
-// the back end, which limits local variables to 2 GiB.
+// The bytes that are copied at once: many, since memmove writes past the processor's caches only where it is given
+// much, and few enough for the back end, which limits local variables to 2 GiB.
 const BLOCK: usize = 268435456;
 
 fn block() -> [u8; BLOCK]
@@ -14,9 +14,9 @@ fn block() -> [u8; BLOCK]
     [0; BLOCK]
 }
 
-// Copies n bytes from i on to their place in out, where the bytes start at `at`; the place in the bytes after them. Of the two loops the
-// compiler makes one memmove, and no array is left: from a loop that copies between two lent slices, which may overlap as far as it knows,
-// it makes none.
+// Copies n bytes from i on to their place in out, where the bytes start at `at`; the place in the bytes after them.
+// Of the two loops the compiler makes one memmove, and no array is left: from a loop that copies between two lent
+// slices, which may overlap as far as it knows, it makes none.
 fn copy_block(out: &mut [u8], at: usize, bytes: &[u8], i: usize, n: usize) -> usize
     requires { ⌜ (n ≤ 268435456) × (i + n ≤ length (now bytes)) × (at + length (now bytes) ≤ length (now out)) ⌝ }
     ensures { λ r. ⌜ r ≡ i + n ⌝ }

@@ -18,7 +18,8 @@ pub fn put_text(out: &mut [u8], at: usize, text: &[u8]) -> usize
     at + i
 }
 
-// Copies n bytes of the text from i on to their place in out, where the text starts at `at`; the place in the text after them.
+// Copies n bytes of the text from i on to their place in out, where the text starts at `at`; the place in the text
+// after them.
 fn put_block(out: &mut [u8], at: usize, text: &[u8], i: usize, n: usize) -> usize
     requires { ⌜ (i + n ≤ length (now text)) × (at + length (now text) ≤ length (now out)) ⌝ }
     ensures { λ r. ⌜ r ≡ i + n ⌝ }
@@ -32,7 +33,8 @@ fn put_block(out: &mut [u8], at: usize, text: &[u8], i: usize, n: usize) -> usiz
     i + n
 }
 
-// Copies a short text to out from at on: eight bytes a turn, then at most four, two and one, with fewer tests than byte by byte.
+// Copies a short text to out from at on: eight bytes a turn, then at most four, two and one, with fewer tests than
+// byte by byte.
 pub fn put_short(out: &mut [u8], at: usize, text: &[u8])
     requires { ⌜ at + length (now text) ≤ length (now out) ⌝ }
     ensures { λ _. ⌜ now (out .exit) ≡ sets (now (out .entry)) at (now (text .entry)) ⌝ }

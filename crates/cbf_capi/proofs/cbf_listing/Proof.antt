@@ -7,7 +7,8 @@ use Rattle.cbf_capi.proofs.cbf_listing.Statement.{statement}
 use Rattle.cbf_capi.proofs.cbf_listing.Tie as tie
 
 word-of-requires : tie.Need-word-of-requires
-word-of-requires c κs = let a = c .before .before .before .before .before .before .args in rw (c .before .before .list .ensures .0) (list-halves (a .file .now) (length (a .out .now)) .fits)
+word-of-requires c κs = let a = c .before .before .before .before .before .before .args in rw
+    (c .before .before .list .ensures .0) (list-halves (a .file .now) (length (a .out .now)) .fits)
 
 returns : tie.Need-returns
 returns c = let E = c .before .before .before .list .ensures in (c .word-of .ensures ∙ ap word (E .0), E .1)

@@ -1,27 +1,30 @@
-use Prim.Native.Nat.{ℕ, _^_, _<_}
-use mathlib.Core.Path.{_≡_, sym, _∙_}
+use mathlib.Core.Path.{sym, _∙_}
 use lib.ListN.{length}
-use Rattle.cbf_capi.specs.Words.{word}
 use Rattle.cbf_capi.proofs.Words.{PackSays, pack-halves, pack-unknown, pack-known}
 use borrow.Author.Needs.{needs}
 use Rattle.cbf_capi.proofs.cbf_pack.Statement.{statement}
 use Rattle.cbf_capi.proofs.cbf_pack.Tie as tie
 
 word-of-requires : tie.Need-word-of-requires
-word-of-requires c κs = let a = c .before .before .before .before .before .before .before .before .before .args in rw (c .before .before .pack .ensures .0) (pack-halves _ (a .pixels .now) (length (a .out .now)) .fits)
+word-of-requires c κs = let a = c .before .before .before .before .before .before .before .before .before .args in rw
+    (c .before .before .pack .ensures .0) (pack-halves _ (a .pixels .now) (length (a .out .now)) .fits)
 
 returns : tie.Need-returns
 unfolding PackSays
 returns c =
     let a = c .before .before .before .before .before .args in
-    pack-unknown _ (a .pixels .now) (a .out .now) _ (c .refused .ensures) (sym (c .before .enum-told .given .1) ∙ c .before .before .before .element-of .ensures)
+    pack-unknown _ (a .pixels .now) (a .out .now) _ (c .refused .ensures) (sym (c .before .enum-told .given .1)
+    ∙ c .before .before .before .element-of .ensures)
 
 returns-2 : tie.Need-returns-2
 unfolding PackSays
 returns-2 c =
     let a = c .before .before .before .before .before .before .before .before .before .before .args in
     let E = c .before .before .before .pack .ensures in
-    pack-known _ (a .pixels .now) (a .out .now) _ (sym (c .before .before .before .before .before .before .known .given .1) ∙ c .before .before .before .before .before .before .before .before .element-of .ensures) _ _ _ (c .word-of .ensures) (E .0) (E .1)
+    pack-known _ (a .pixels .now) (a .out .now) _
+    (sym (c .before .before .before .before .before .before .known .given .1)
+    ∙ c .before .before .before .before .before .before .before .before .element-of .ensures) _ _ _
+    (c .word-of .ensures) (E .0) (E .1)
 
 pub cbf-pack-spec : {M : Type 1} → statement M
 cbf-pack-spec =

@@ -8,7 +8,9 @@ use Rattle.cbf_capi.proofs.cbf_replace.Statement.{statement}
 use Rattle.cbf_capi.proofs.cbf_replace.Tie as tie
 
 word-of-requires : tie.Need-word-of-requires
-word-of-requires c κs = let a = c .before .before .before .before .before .before .args in rw (c .before .before .replace .ensures .0) (replace-halves (a .file .now) (a .section) (a .frame .now) (length (a .out .now)) .fits)
+word-of-requires c κs = let a = c .before .before .before .before .before .before .args in rw
+    (c .before .before .replace .ensures .0) (replace-halves (a .file .now) (a .section) (a .frame .now)
+    (length (a .out .now)) .fits)
 
 returns : tie.Need-returns
 returns c = let E = c .before .before .before .replace .ensures in (c .word-of .ensures ∙ ap word (E .0), E .1)

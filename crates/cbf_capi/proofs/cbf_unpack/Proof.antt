@@ -8,7 +8,8 @@ use Rattle.cbf_capi.proofs.cbf_unpack.Statement.{statement}
 use Rattle.cbf_capi.proofs.cbf_unpack.Tie as tie
 
 word-of-requires : tie.Need-word-of-requires
-word-of-requires c κs = let a = c .before .before .before .before .args in rw (c .before .unpack .ensures .0) (frame-halves (a .file .now) (a .section) (length (a .pixels .now)) .fits)
+word-of-requires c κs = let a = c .before .before .before .before .args in rw (c .before .unpack .ensures .0)
+    (frame-halves (a .file .now) (a .section) (length (a .pixels .now)) .fits)
 
 returns : tie.Need-returns
 returns c = let E = c .before .before .unpack .ensures in (c .word-of .ensures ∙ ap word (E .0), E .1)

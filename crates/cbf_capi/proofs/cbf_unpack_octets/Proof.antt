@@ -1,33 +1,44 @@
-use Prim.Native.Nat.{ℕ, _^_, _<_}
-use mathlib.Core.Path.{_≡_, sym, _∙_}
+use mathlib.Core.Path.{sym, _∙_}
 use lib.ListN.{length}
-use Rattle.cbf_capi.specs.Words.{word}
-use Rattle.cbf_capi.proofs.Words.{UnpackSays, unpack-halves, unpack-no-type, unpack-no-compression, unpack-known}
+use Rattle.cbf_capi.proofs.Words.{UnpackSays, unpack-halves, unpack-no-type, unpack-no-compression}
+use Rattle.cbf_capi.proofs.Words.{unpack-known}
 use borrow.Author.Needs.{needs}
 use Rattle.cbf_capi.proofs.cbf_unpack_octets.Statement.{statement}
 use Rattle.cbf_capi.proofs.cbf_unpack_octets.Tie as tie
 
 word-of-requires : tie.Need-word-of-requires
-word-of-requires c κs = let a = c .before .before .before .before .before .before .before .before .before .before .before .before .args in rw (c .before .unpack .ensures .0) (unpack-halves _ _ (a .count) (a .octets .now) (length (a .pixels .now)) .fits)
+word-of-requires c κs = let a = c .before .before .before .before .before .before .before .before .before .before
+    .before .before .args in rw (c .before .unpack .ensures .0) (unpack-halves _ _ (a .count) (a .octets .now)
+    (length (a .pixels .now)) .fits)
 
 returns : tie.Need-returns
 unfolding UnpackSays
 returns c =
     let a = c .before .before .before .before .before .before .args in
-    unpack-no-type _ _ (a .count) (a .octets .now) (a .pixels .now) _ (c .refused .ensures) (sym (c .before .enum-told .given .1) ∙ c .before .before .before .before .element-of .ensures)
+    unpack-no-type _ _ (a .count) (a .octets .now) (a .pixels .now) _ (c .refused .ensures)
+    (sym (c .before .enum-told .given .1) ∙ c .before .before .before .before .element-of .ensures)
 
 returns-2 : tie.Need-returns-2
 unfolding UnpackSays
 returns-2 c =
     let a = c .before .before .before .before .before .before .before .before .before .args in
-    unpack-no-compression _ _ (a .count) (a .octets .now) (a .pixels .now) _ (c .refused2 .ensures) _ (sym (c .before .before .before .before .known .given .1) ∙ c .before .before .before .before .before .before .before .element-of .ensures) (sym (c .before .enum-told2 .given .1) ∙ c .before .before .before .before .before .before .compression-of .ensures)
+    unpack-no-compression _ _ (a .count) (a .octets .now) (a .pixels .now) _ (c .refused2 .ensures) _
+    (sym (c .before .before .before .before .known .given .1)
+    ∙ c .before .before .before .before .before .before .before .element-of .ensures)
+    (sym (c .before .enum-told2 .given .1)
+    ∙ c .before .before .before .before .before .before .compression-of .ensures)
 
 returns-3 : tie.Need-returns-3
 unfolding UnpackSays
 returns-3 c =
     let a = c .before .before .before .before .before .before .before .before .before .before .before .before .before .args in
     let E = c .before .before .unpack .ensures in
-    unpack-known _ _ (a .count) (a .octets .now) (a .pixels .now) _ _ (sym (c .before .before .before .before .before .before .before .before .known .given .1) ∙ c .before .before .before .before .before .before .before .before .before .before .before .element-of .ensures) (sym (c .before .before .before .before .before .compressed-by .given .1) ∙ c .before .before .before .before .before .before .before .before .before .before .compression-of .ensures) _ _ _ (c .word-of .ensures) (E .0) (E .1)
+    unpack-known _ _ (a .count) (a .octets .now) (a .pixels .now) _ _
+    (sym (c .before .before .before .before .before .before .before .before .known .given .1)
+    ∙ c .before .before .before .before .before .before .before .before .before .before .before .element-of
+    .ensures) (sym (c .before .before .before .before .before .compressed-by .given .1)
+    ∙ c .before .before .before .before .before .before .before .before .before .before .compression-of .ensures)
+    _ _ _ (c .word-of .ensures) (E .0) (E .1)
 
 pub cbf-unpack-octets-spec : {M : Type 1} → statement M
 cbf-unpack-octets-spec =

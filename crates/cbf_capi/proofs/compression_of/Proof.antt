@@ -1,20 +1,19 @@
-use mathlib.Core.Path.{_≡_, sym, ap}
+use mathlib.Core.Path.{sym, ap}
 use borrow.Author.Tests.{ne-eqb}
-use Rattle.cbf_pixels.specs.Octets.{pick}
 use Rattle.cbf_capi.specs.Words.{compressed}
 use Rattle.cbf_capi.proofs.compression_of.Statement.{statement}
 use Rattle.cbf_capi.proofs.compression_of.Tie as tie
 
 returns : tie.Need-returns
-unfolding compressed pick
+unfolding compressed
 returns c = ap compressed (sym (c .match .keys1))
 
 returns-2 : tie.Need-returns-2
-unfolding compressed pick
+unfolding compressed
 returns-2 c = ap compressed (sym (c .match .keys2))
 
 returns-3 : tie.Need-returns-3
-unfolding compressed pick
+unfolding compressed
 returns-3 c =
     let n = c .before .args .number in
     let r = c .match .rest in

@@ -6,10 +6,10 @@ use Prim.Native.Nat.{ℕ}
 use borrow.Author.Needs.{needs}
 use denote.Ref.{now}
 use lib.ListN.{length}
-use Rattle.cbf_pixels.specs.Answers.{Outcome}
-use Rattle.cbf_format.specs.Lines.{lineLimit}
+use Rattle.cbf_answers.specs.Answers.{Outcome}
+use Rattle.cbf_answers.specs.Limits.{lineLimit}
 use Rattle.cbf_format.specs.Files.{read}
-use Rattle.cbf_write.proofs.RoomLaws.{Says}
+use Rattle.cbf_answers.proofs.Rooms.{Says}
 use Rattle.cbf_list.specs.Texts.{listText, textOutcome}
 use Rattle.cbf_list.proofs.text.Statement.{statement}
 use Rattle.cbf_list.proofs.text.Tie as tie

@@ -10,7 +10,8 @@ returns c =
     let t = c .before .before .before .before in
     let s = t .before .before .before .before .before .before .before in
     let a = s .before .before .before .before .before .before .before .before .args in
-    let demanded = two-orders (now (a .file)) (a .i) (now (a .f)) (a .j) (now (a .g)) (now (a .oi)) (now (a .oij)) (now (a .oj)) (now (a .oji)) (s .one-order .ensures) (t .one-order2 .ensures) in
+    let demanded = two-orders (now (a .file)) (a .i) (now (a .f)) (a .j) (now (a .g)) (now (a .oi)) (now (a .oij))
+    (now (a .oj)) (now (a .oji)) (s .one-order .ensures) (t .one-order2 .ensures) in
     ((s .one-order .ensures, t .one-order2 .ensures), demanded)
 
 pub both-orders-spec : {M : Type 1} → statement M

@@ -1,9 +1,9 @@
 -- `one_order` meets its contract: the second call reads the file that the first gave. Assumes nothing.
-use mathlib.Core.Path.{_≡_, sym, ap, _∙_}
+use mathlib.Core.Path.{sym, ap, _∙_}
 use denote.Ref.{now}
 use borrow.Author.Needs.{needs}
 use lib.Seq.{length-take-le}
-use Rattle.cbf_pixels.specs.Answers.{outcome}
+use Rattle.cbf_answers.specs.Answers.{outcome}
 use Rattle.cbf_orders.specs.Orders.{replacementOf}
 use Rattle.cbf_orders.proofs.OrderLaws.{Given, given-file, order-refused, order-made}
 use Rattle.cbf_orders.proofs.one_order.Statement.{statement}

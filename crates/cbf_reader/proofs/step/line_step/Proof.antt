@@ -1,7 +1,7 @@
 use mathlib.Core.Path.{refl, sym, subst}
 use mathlib.Core.Logic.{⊎-elim}
 use denote.Ref.{now}
-use Rattle.cbf_reader.specs.declared.value.Range.{Range}
+use Rattle.cbf_format.specs.declared.Range.{Range}
 use Rattle.cbf_reader.proofs.StepLaws.{BlockAfter, block-outside, block-kept, after-line}
 use borrow.Author.Needs.{needs}
 use Rattle.cbf_reader.proofs.step.line_step.Statement.{statement}

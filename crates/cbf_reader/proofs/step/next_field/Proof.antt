@@ -18,7 +18,8 @@ rest at to file = ap blanks (drop-drop 1 at (take to file))
 returns : tie.Need-returns
 returns c f n b e =
     let a = c .before .before .before .before .before .args in
-    follows (a .at) n f b (slice (a .at) (a .to) (now (a .file))) (sym (c .before .enum-told2 .given .1) ∙ e) (sym (not-true _ (c .if1 .taken)) ∙ c .before .before .before .starts-field .ensures) refl
+    follows (a .at) n f b (slice (a .at) (a .to) (now (a .file))) (sym (c .before .enum-told2 .given .1) ∙ e)
+    (sym (not-true _ (c .if1 .taken)) ∙ c .before .before .before .starts-field .ensures) refl
 
 is-blank-text-requires : tie.Need-is-blank-text-requires
 is-blank-text-requires c κs =
@@ -30,17 +31,22 @@ is-blank-text-requires c κs =
 returns-2 : tie.Need-returns-2
 returns-2 c f n b e =
     let a = c .before .before .before .before .before .before .before .args in
-    follows (a .at) n f b (slice (a .at) (a .to) (now (a .file))) (sym (c .before .before .before .enum-told2 .given .1) ∙ e) (sym (not-false _ (c .before .before .if1 .left)) ∙ c .before .before .before .before .before .starts-field .ensures) (sym (c .if2 .taken) ∙ c .before .is-blank-text .ensures ∙ sym (rest (a .at) (a .to) (now (a .file))))
+    follows (a .at) n f b (slice (a .at) (a .to) (now (a .file)))
+    (sym (c .before .before .before .enum-told2 .given .1) ∙ e) (sym (not-false _ (c .before .before .if1 .left))
+    ∙ c .before .before .before .before .before .starts-field .ensures) (sym (c .if2 .taken)
+    ∙ c .before .is-blank-text .ensures ∙ sym (rest (a .at) (a .to) (now (a .file))))
 
 returns-3 : tie.Need-returns-3
 returns-3 c f n b e =
     let a = c .before .before .before .before .before .before .args in
-    follows (a .at) n f b (slice (a .at) (a .to) (now (a .file))) (sym (c .before .before .field .given .1) ∙ e) (sym (c .if3 .taken) ∙ c .before .before .before .before .starts-field .ensures) refl
+    follows (a .at) n f b (slice (a .at) (a .to) (now (a .file))) (sym (c .before .before .field .given .1) ∙ e)
+    (sym (c .if3 .taken) ∙ c .before .before .before .before .starts-field .ensures) refl
 
 returns-4 : tie.Need-returns-4
 returns-4 c f n b e =
     let a = c .before .before .before .before .before .before .args in
-    follows (a .at) n f b (slice (a .at) (a .to) (now (a .file))) (sym (c .before .before .field2 .given .1) ∙ e) (sym (c .if4 .taken) ∙ c .before .before .before .before .starts-field .ensures) refl
+    follows (a .at) n f b (slice (a .at) (a .to) (now (a .file))) (sym (c .before .before .field2 .given .1) ∙ e)
+    (sym (c .if4 .taken) ∙ c .before .before .before .before .starts-field .ensures) refl
 
 returns-5 : tie.Need-returns-5
 returns-5 c f n b e =
@@ -50,17 +56,22 @@ returns-5 c f n b e =
 returns-6 : tie.Need-returns-6
 returns-6 c f n b e =
     let a = c .before .before .before .before .before .before .before .args in
-    follows (a .at) n f b (slice (a .at) (a .to) (now (a .file))) (sym (c .before .before .before .enum-told2 .given .1) ∙ e) (sym (not-false _ (c .before .before .if1 .left)) ∙ c .before .before .before .before .before .starts-field .ensures) (sym (c .if2 .left) ∙ c .before .is-blank-text .ensures ∙ sym (rest (a .at) (a .to) (now (a .file))))
+    follows (a .at) n f b (slice (a .at) (a .to) (now (a .file)))
+    (sym (c .before .before .before .enum-told2 .given .1) ∙ e) (sym (not-false _ (c .before .before .if1 .left))
+    ∙ c .before .before .before .before .before .starts-field .ensures) (sym (c .if2 .left)
+    ∙ c .before .is-blank-text .ensures ∙ sym (rest (a .at) (a .to) (now (a .file))))
 
 returns-7 : tie.Need-returns-7
 returns-7 c f n b e =
     let a = c .before .before .before .before .before .before .args in
-    follows (a .at) n f b (slice (a .at) (a .to) (now (a .file))) (sym (c .before .before .field .given .1) ∙ e) (sym (c .if3 .left) ∙ c .before .before .before .before .starts-field .ensures) refl
+    follows (a .at) n f b (slice (a .at) (a .to) (now (a .file))) (sym (c .before .before .field .given .1) ∙ e)
+    (sym (c .if3 .left) ∙ c .before .before .before .before .starts-field .ensures) refl
 
 returns-8 : tie.Need-returns-8
 returns-8 c f n b e =
     let a = c .before .before .before .before .before .before .args in
-    follows (a .at) n f b (slice (a .at) (a .to) (now (a .file))) (sym (c .before .before .field2 .given .1) ∙ e) (sym (c .if4 .left) ∙ c .before .before .before .before .starts-field .ensures) refl
+    follows (a .at) n f b (slice (a .at) (a .to) (now (a .file))) (sym (c .before .before .field2 .given .1) ∙ e)
+    (sym (c .if4 .left) ∙ c .before .before .before .before .starts-field .ensures) refl
 
 pub next-field-spec : {M : Type 1} → statement M
 next-field-spec =

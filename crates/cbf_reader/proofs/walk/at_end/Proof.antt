@@ -1,6 +1,6 @@
 use mathlib.Core.Path.{sym, ap}
 use borrow.Author.Needs.{needs}
-use Rattle.cbf_reader.specs.WalkPlaces.{endOf}
+use Rattle.cbf_reader.specs.Walk.{endOf}
 use Rattle.cbf_reader.proofs.walk.at_end.Statement.{statement}
 use Rattle.cbf_reader.proofs.walk.at_end.Tie as tie
 

@@ -3,7 +3,7 @@ use native.Mathlib.Omega.{arith}
 use lib.ListN.{length}
 use denote.Ref.{now}
 use borrow.Author.Needs.{needs}
-use Rattle.cbf_format.specs.Sections.{fileLimit}
+use Rattle.cbf_answers.specs.Limits.{fileLimit}
 use Rattle.cbf_reader.proofs.WalkLaws.{read-long, read-empty, read-whole}
 use Rattle.cbf_reader.proofs.walk.begin.Statement.{statement}
 use Rattle.cbf_reader.proofs.walk.begin.Tie as tie

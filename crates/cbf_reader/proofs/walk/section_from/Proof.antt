@@ -6,11 +6,11 @@ use lib.ListN.{length}
 use denote.Ref.{now}
 use borrow.Author.Needs.{needs}
 use Rattle.cbf_walk.specs.Reading.{refused}
-use Rattle.cbf_format.specs.Files as F
-use Rattle.cbf_reader.specs.StepPlaces.{Ready}
-use Rattle.cbf_reader.specs.WalkPlaces.{Come, NextSays}
+use Rattle.cbf_reader.specs.Step.{Ready}
+use Rattle.cbf_reader.specs.Walk.{ReadTo, NextSays}
 use Rattle.cbf_reader.proofs.WalkLaws.{Walked, walked-start, walked-line, goes-on, gave, walk-end, flat-more}
 use Rattle.cbf_reader.proofs.walk.section_from.Statement.{statement}
+use Rattle.cbf_format.specs.Files as F
 use Rattle.cbf_reader.proofs.walk.section_from.Tie as tie
 
 abbrev Inv-loop : tie.InvT-loop
@@ -31,7 +31,8 @@ returns c done k =
     let l = c .before .before .before .before .before .before .loop in
     let t = c .before .before .before .step in
     let w = l .inv .1 done k in
-    gave (a .limit) (now (a .file)) (l .cursor) (l .inv .0) (c .before .before .before .before .if1 .taken) (t .ensures) (c .before .s .given .1) (done ++ w .0) (w .2)
+    gave (a .limit) (now (a .file)) (l .cursor) (l .inv .0) (c .before .before .before .before .if1 .taken)
+    (t .ensures) (c .before .s .given .1) (done ++ w .0) (w .2)
 
 returns-2 : tie.Need-returns-2 Inv-loop μ-loop
 returns-2 c done k =
@@ -39,7 +40,8 @@ returns-2 c done k =
     let l = c .before .before .before .before .before .before .loop in
     let t = c .before .before .before .step in
     let w = l .inv .1 done k in
-    gave (a .limit) (now (a .file)) (l .cursor) (l .inv .0) (c .before .before .before .before .if1 .taken) (t .ensures) (c .before .enum-told .given .1) (done ++ w .0) (w .2)
+    gave (a .limit) (now (a .file)) (l .cursor) (l .inv .0) (c .before .before .before .before .if1 .taken)
+    (t .ensures) (c .before .enum-told .given .1) (done ++ w .0) (w .2)
     ∙ ap (refused 11) (sym (c .open-place .ensures))
 
 loop-less : tie.Need-loop-less Inv-loop μ-loop
@@ -57,7 +59,8 @@ loop-again c =
     let a = c .before .before .before .before .before .before .before .before .args in
     let l = c .before .before .before .before .before .before .loop in
     let t = c .before .before .before .step in
-    let m = goes-on (a .limit) (now (a .file)) (l .cursor) (l .inv .0) (c .before .before .before .before .if1 .taken) (t .ensures) (c .before .s2 .given .1) in (
+    let m = goes-on (a .limit) (now (a .file)) (l .cursor) (l .inv .0) (c .before .before .before .before .if1 .taken)
+    (t .ensures) (c .before .s2 .given .1) in (
       m .0,
       walked-line (a .limit) (now (a .file)) (l .cursor) (l .inv .0) (a .c) (c .before .s2 .given .0 .0) (l .inv .1)
           (gave (a .limit) (now (a .file)) (l .cursor) (l .inv .0) (c .before .before .before .before .if1 .taken) (t .ensures) (c .before .s2 .given .1)),
@@ -69,7 +72,8 @@ returns-3 c done k =
     let l = c .before .before .before .before .before .before .loop in
     let t = c .before .before .before .step in
     let w = l .inv .1 done k in
-    let g = gave (a .limit) (now (a .file)) (l .cursor) (l .inv .0) (c .before .before .before .before .if1 .taken) (t .ensures) (c .before .s3 .given .1) (done ++ w .0) (w .2) in (
+    let g = gave (a .limit) (now (a .file)) (l .cursor) (l .inv .0) (c .before .before .before .before .if1 .taken)
+    (t .ensures) (c .before .s3 .given .1) (done ++ w .0) (w .2) in (
       w .0,
       g .0,
       g .1,
@@ -78,7 +82,7 @@ returns-3 c done k =
       g .3,
       g .4,
       omega (arith, g .5, flat-more done (w .0)),
-      subst (λ (z : F.Tree). Come (a .limit) (now (a .file)) z (c .before .s3 .given .0 .1 .0)) (append-assoc done (w .0) (g .0 ∷ [])) (g .6),
+      subst (λ (z : F.Tree). ReadTo (a .limit) (now (a .file)) z (c .before .s3 .given .0 .1 .0)) (append-assoc done (w .0) (g .0 ∷ [])) (g .6),
     )
 
 returns-4 : tie.Need-returns-4 Inv-loop μ-loop

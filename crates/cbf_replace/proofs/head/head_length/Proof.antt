@@ -7,7 +7,12 @@ use Rattle.cbf_replace.proofs.head.head_length.Statement.{statement}
 use Rattle.cbf_replace.proofs.head.head_length.Tie as tie
 
 short : (c : tie.After-type-length) → c .type-length .result ≤ 23
-short c = omega (arith, c .type-length .ensures, type-short (c .before .before .before .before .before .before .before .before .before .before .before .args .d .kind))
+short c = omega (
+  arith,
+  c .type-length .ensures,
+  type-short
+      (c .before .before .before .before .before .before .before .before .before .before .before .args .d .kind),
+)
 
 add-result : tie.Need-add-result
 add-result c = let h = short c in search needs
@@ -29,8 +34,20 @@ add-result-6 c = let h = short c in search needs
 
 returns : tie.Need-returns
 returns c =
-    let a = c .before .before .before .before .before .before .before .before .before .before .before .args in
-    (omega (arith, head-length (a .d) (a .size), c .type-length .ensures, c .before .optional-length4 .ensures .0, c .before .before .before .optional-length3 .ensures .0, c .before .before .before .before .before .optional-length2 .ensures .0, c .before .before .before .before .before .before .before .optional-length .ensures .0, c .before .before .before .before .before .before .before .before .before .digit-count2 .ensures .0, c .before .before .before .before .before .before .before .before .before .before .digit-count .ensures .0), let h = short c in search needs)
+    let a = c .before .before .before .before .before .before .before .before .before .before .before .args in (
+      omega (
+        arith,
+        head-length (a .d) (a .size),
+        c .type-length .ensures,
+        c .before .optional-length4 .ensures .0,
+        c .before .before .before .optional-length3 .ensures .0,
+        c .before .before .before .before .before .optional-length2 .ensures .0,
+        c .before .before .before .before .before .before .before .optional-length .ensures .0,
+        c .before .before .before .before .before .before .before .before .before .digit-count2 .ensures .0,
+        c .before .before .before .before .before .before .before .before .before .before .digit-count .ensures .0,
+      ),
+      let h = short c in search needs,
+    )
 
 pub head-length-spec : {M : Type 1} → statement M
 head-length-spec =

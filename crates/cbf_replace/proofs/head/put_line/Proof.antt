@@ -5,7 +5,8 @@ use Prim.Native.Nat.{ℕ}
 use borrow.Author.Needs.{needs}
 use lib.ListN.{drop}
 use Rattle.cbf_replace.specs.HeadTexts.{lineText}
-use Rattle.cbf_replace.proofs.HeadLaws.{Written, written-none, written-more, written-all, next-fits, linePieces, line-pieces}
+use Rattle.cbf_replace.proofs.HeadLaws.{Written, written-none, written-more, written-all, next-fits}
+use Rattle.cbf_replace.proofs.HeadLaws.{linePieces, line-pieces}
 use Rattle.cbf_replace.proofs.head.put_line.Statement.{statement}
 use Rattle.cbf_replace.proofs.head.put_line.Tie as tie
 
@@ -20,7 +21,8 @@ none-yet s = written-none (linePieces (s .args .name .now) (s .args .n)) (line-p
 after-1 : (c : tie.After-put-text) → Pieces (c .before .before .before .before) 1 (c .put-text .result) (c .put-text .last .0)
 after-1 c = written-more (none-yet (c .before .before .before .before)) (c .put-text .ensures)
 
-after-2 : (c : tie.After-put-number) → Pieces (c .before .before .before .before .before .before .before .before) 2 (c .put-number .result) (c .put-number .last .0)
+after-2 : (c : tie.After-put-number) → Pieces (c .before .before .before .before .before .before .before .before) 2
+    (c .put-number .result) (c .put-number .last .0)
 after-2 c = written-more (after-1 (c .before .before .before .before)) (c .put-number .ensures)
 
 put-text-requires : tie.Need-put-text-requires

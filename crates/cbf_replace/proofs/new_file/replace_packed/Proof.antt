@@ -1,4 +1,5 @@
--- `replace_packed` meets its contract: the length is the new file's, and it is written where it has room. Assumes nothing.
+-- `replace_packed` meets its contract: the length is the new file's, and it is written where it has room. Assumes
+-- nothing.
 use mathlib.Core.Path.{_≡_}
 use Prim.Native.Nat.{_+_, _-_}
 use native.Mathlib.Omega.{arith}
@@ -13,7 +14,8 @@ use Rattle.cbf_replace.proofs.new_file.replace_packed.Tie as tie
 -- the length that was worked out is the new file's
 length-is : (m : tie.After-head-length)
     → let a = m .before .before .before .before .args in
-    a .s .from + (m .head-length .result + a .size + 33) + (length (a .file .now) - a .s .to) ≡ length (fileWith (a .file .now) (a .s) (packByteOffset (a .frame .now)))
+    a .s .from + (m .head-length .result + a .size + 33) + (length (a .file .now) - a .s .to)
+    ≡ length (fileWith (a .file .now) (a .s) (packByteOffset (a .frame .now)))
 length-is m =
     let s = m .before .before .before .before in
     omega (arith, file-length (packByteOffset (s .args .frame .now)) (s .pre .1 .counted) (s .pre .0), m .head-length .ensures .0)
@@ -39,7 +41,8 @@ returns-3 c =
     let s = m .before .before .before .before in
     let a = s .args in
     let os = packByteOffset (a .frame .now) in
-    packed-no-room os (fileWith (a .file .now) (a .s) os) (a .out .now) (omega (arith, s .pre .1 .counted, m .before .if1 .left)) (length-is m) (c .before .if2 .left) (c .if3 .taken)
+    packed-no-room os (fileWith (a .file .now) (a .s) os) (a .out .now)
+    (omega (arith, s .pre .1 .counted, m .before .if1 .left)) (length-is m) (c .before .if2 .left) (c .if3 .taken)
 
 put-file-requires : tie.Need-put-file-requires
 put-file-requires c κs =

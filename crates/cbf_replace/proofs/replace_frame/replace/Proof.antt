@@ -2,13 +2,13 @@
 use mathlib.Core.Path.{_≡_, subst}
 use denote.Ref.{now}
 use borrow.Author.Needs.{needs}
-use Rattle.cbf_format.specs.Files as F
 use Rattle.cbf_format.specs.Listing.{Placed}
-use Rattle.cbf_reader.specs.Surveys.{NumberedSays}
-use Rattle.cbf_reader.specs.declared.survey.Numbered.{Numbered}
-use Rattle.cbf_sections.specs.SectionCalls.{value, sectionOf}
+use Rattle.cbf_reader.specs.WholeFile.{NumberedSays}
+use Rattle.cbf_format.specs.declared.Numbered.{Numbered}
+use Rattle.cbf_sections.specs.SectionCalls.{value, sectionNumbered}
 use Rattle.cbf_replace.proofs.ReplaceLaws.{Here, here-of, replace-refused, replace-text, replace-binary}
 use Rattle.cbf_replace.proofs.replace_frame.replace.Statement.{statement}
+use Rattle.cbf_format.specs.Files as F
 use Rattle.cbf_replace.proofs.replace_frame.replace.Tie as tie
 
 -- what the reader says of each answer of its own
@@ -21,7 +21,7 @@ said m e =
 -- the section that was found
 here : (b : tie.After-numbered2)
     → let a = b .before .before .before .before .before .args in
-    (p : Placed) × (sectionOf (F.read (a .limit) (now (a .file))) (a .number) ≡ value p) × Here (now (a .file)) p (b .numbered2 .given .0 .0)
+    (p : Placed) × (sectionNumbered (F.read (a .limit) (now (a .file))) (a .number) ≡ value p) × Here (now (a .file)) p (b .numbered2 .given .0 .0)
 here b =
     let m = b .before .before in
     let a = m .before .before .before .args in
@@ -35,7 +35,8 @@ returns c =
     let b = c .before in
     let m = b .before .before in
     let a = m .before .before .before .args in
-    replace-refused (now (a .file)) (a .number) (F.read (a .limit) (now (a .file))) (b .numbered .given .0 .0) (now (a .frame)) (now (a .out)) (said m (b .numbered .given .1))
+    replace-refused (now (a .file)) (a .number) (F.read (a .limit) (now (a .file))) (b .numbered .given .0 .0)
+    (now (a .frame)) (now (a .out)) (said m (b .numbered .given .1))
 
 returns-2 : tie.Need-returns-2
 returns-2 c =
@@ -43,7 +44,8 @@ returns-2 c =
     let b = u .before .before .before .before .before .before in
     let a = b .before .before .before .before .before .args in
     let h = here b in
-    replace-binary (now (a .file)) (F.read (a .limit) (now (a .file))) (a .number) (now (a .frame)) (now (a .out)) (h .1) (h .2) (u .before .before .enum-told .given .1) (u .replace-section .ensures)
+    replace-binary (now (a .file)) (F.read (a .limit) (now (a .file))) (a .number) (now (a .frame)) (now (a .out))
+    (h .1) (h .2) (u .before .before .enum-told .given .1) (u .replace-section .ensures)
 
 returns-3 : tie.Need-returns-3
 returns-3 c =

@@ -15,8 +15,11 @@ returns c =
 replace-packed-requires : tie.Need-replace-packed-requires
 replace-packed-requires c κs =
     let m = c .before .before .before .before in
-    let s = m .before .before .before .before .before in
-    (s .pre, frame-packed (s .args .s .description) (s .args .frame .now) (s .args .out .now) (s .args .out .now) (sym (c .before .before .size .given .1) ∙ m .octet-count .ensures))
+    let s = m .before .before .before .before .before in (
+      s .pre,
+      frame-packed (s .args .s .description) (s .args .frame .now) (s .args .out .now) (s .args .out .now)
+          (sym (c .before .before .size .given .1) ∙ m .octet-count .ensures),
+    )
 
 returns-2 : tie.Need-returns-2
 returns-2 c =

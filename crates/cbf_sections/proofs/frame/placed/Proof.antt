@@ -1,7 +1,7 @@
 -- `placed` meets its contract. Assumes nothing.
 use mathlib.Core.Path.{ap, _∙_, sym}
-use Rattle.cbf_pixels.specs.Answers.{outcome}
-use Rattle.cbf_pixels.specs.declared.Answer.{Answer}
+use Rattle.cbf_answers.specs.Answers.{outcome}
+use Rattle.cbf_answers.specs.declared.Answer.{Answer}
 use Rattle.cbf_sections.specs.SectionCalls.{placedAt}
 use Rattle.cbf_sections.proofs.SectionCallLaws.{placed-13, placed-other}
 use borrow.Author.Needs.{needs}

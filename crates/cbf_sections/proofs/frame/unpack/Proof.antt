@@ -1,20 +1,21 @@
 -- `unpack` meets its contract, by those of `numbered_section`, `unpack_octets` and `placed`. Assumes nothing.
 use mathlib.Core.Path.{_≡_, ap, _∙_, subst}
 use denote.Ref.{now}
-use Rattle.cbf_format.specs.Files as F
-use Rattle.cbf_reader.specs.Surveys.{NumberedSays}
-use Rattle.cbf_reader.specs.declared.survey.Numbered.{Numbered}
+use Rattle.cbf_reader.specs.WholeFile.{NumberedSays}
+use Rattle.cbf_format.specs.declared.Numbered.{Numbered}
 use Rattle.cbf_format.specs.Listing.{Placed}
-use Rattle.cbf_sections.specs.SectionCalls.{value, sectionOf, placedAt}
+use Rattle.cbf_sections.specs.SectionCalls.{value, sectionNumbered, placedAt}
 use Rattle.cbf_sections.specs.FramePlaces.{FrameOf}
 use Rattle.cbf_sections.proofs.SectionCallLaws.{frame-of, frame-refused, frame-says}
 use borrow.Author.Needs.{needs}
 use Rattle.cbf_sections.proofs.frame.unpack.Statement.{statement}
+use Rattle.cbf_format.specs.Files as F
 use Rattle.cbf_sections.proofs.frame.unpack.Tie as tie
 
 -- what the reader says of each answer of its own
 said : (m : tie.After-numbered-section) {x : Numbered} → m .numbered-section .result ≡ x
-    → NumberedSays (now (m .before .before .args .file)) (m .before .before .args .number) (F.read (m .before .before .args .limit) (now (m .before .before .args .file))) x
+    → NumberedSays (now (m .before .before .args .file)) (m .before .before .args .number)
+    (F.read (m .before .before .args .limit) (now (m .before .before .args .file))) x
 said m e =
     let a = m .before .before .args in
     subst (NumberedSays (now (a .file)) (a .number) (F.read (a .limit) (now (a .file)))) e (m .numbered-section .ensures)
@@ -23,7 +24,7 @@ said m e =
 framed : (b : tie.After-numbered2)
     → let a = b .before .before .before .before .args in
     (p : Placed)
-    × (sectionOf (F.read (a .limit) (now (a .file))) (a .number) ≡ value p)
+    × (sectionNumbered (F.read (a .limit) (now (a .file))) (a .number) ≡ value p)
     × FrameOf (now (a .file)) p (b .numbered2 .given .0 .0)
 framed b =
     let m = b .before .before in

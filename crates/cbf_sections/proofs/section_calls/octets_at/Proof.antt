@@ -1,12 +1,12 @@
 -- `octets_at` meets its contract, by that of `numbered_section`. Assumes nothing.
 use mathlib.Core.Path.{_≡_, ap, _∙_, sym}
 use denote.Ref.{now}
-use Rattle.cbf_format.specs.Files as F
-use Rattle.cbf_reader.specs.declared.survey.Numbered.{Numbered}
+use Rattle.cbf_format.specs.declared.Numbered.{Numbered}
 use Rattle.cbf_sections.specs.SectionCalls.{octetsOf, octetsPlace}
 use Rattle.cbf_sections.proofs.SectionCallLaws.{numberedPlace, place-in}
 use borrow.Author.Needs.{needs}
 use Rattle.cbf_sections.proofs.section_calls.octets_at.Statement.{statement}
+use Rattle.cbf_format.specs.Files as F
 use Rattle.cbf_sections.proofs.section_calls.octets_at.Tie as tie
 
 -- the place for each answer of the reader

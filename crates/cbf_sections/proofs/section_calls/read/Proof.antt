@@ -1,12 +1,12 @@
 -- `read` meets its contract, by that of `count_sections`. Assumes nothing.
 use mathlib.Core.Path.{_≡_, ap, _∙_, sym}
 use denote.Ref.{now}
-use Rattle.cbf_format.specs.Files as F
-use Rattle.cbf_reader.specs.declared.survey.Count.{Count}
+use Rattle.cbf_reader.specs.declared.whole_file.Count.{Count}
 use Rattle.cbf_sections.specs.SectionCalls.{readOutcome}
 use Rattle.cbf_sections.proofs.SectionCallLaws.{countSays, count-outcome}
 use borrow.Author.Needs.{needs}
 use Rattle.cbf_sections.proofs.section_calls.read.Statement.{statement}
+use Rattle.cbf_format.specs.Files as F
 use Rattle.cbf_sections.proofs.section_calls.read.Tie as tie
 
 -- what is answered for each count

@@ -1,9 +1,9 @@
 -- `section` meets its contract, by that of `numbered_section`. Assumes nothing.
 use denote.Ref.{now}
-use Rattle.cbf_format.specs.Files as F
 use Rattle.cbf_sections.proofs.SectionCallLaws.{section-fields}
 use borrow.Author.Needs.{needs}
 use Rattle.cbf_sections.proofs.section_calls.section.Statement.{statement}
+use Rattle.cbf_format.specs.Files as F
 use Rattle.cbf_sections.proofs.section_calls.section.Tie as tie
 
 returns : tie.Need-returns

@@ -1,4 +1,5 @@
--- `byte_offset_text::pass` meets its contract: each turn fills the window again and passes one part of the pixels. Assumes nothing.
+-- `byte_offset_text::pass` meets its contract: each turn fills the window again and passes one part of the pixels.
+-- Assumes nothing.
 use Prim.Native.Nat.{_-_}
 use native.Mathlib.Omega.{arith}
 use mathlib.Core.Path.{refl, sym}
@@ -8,7 +9,8 @@ use mir.Val.{toZ}
 use borrow.Author.Tests.{not-true, not-false}
 use Rattle.cbf_pixels.specs.Pixels.{unpackByteOffset}
 use Rattle.cbf_text.specs.Texts.{textOctets}
-use Rattle.cbf_text.proofs.PassLaws.{Passing, starts, refilled, there, fillable, done-length, ends, ends-not, output, turn-length, turn-few, turn-fails, turn-moves, turned}
+use Rattle.cbf_text.proofs.PassLaws.{Passing, starts, refilled, there, fillable, done-length, ends, ends-not}
+use Rattle.cbf_text.proofs.PassLaws.{output, turn-length, turn-few, turn-fails, turn-moves, turned}
 use Rattle.cbf_text.proofs.byte_offset_text.pass.Statement.{statement}
 use Rattle.cbf_text.proofs.byte_offset_text.pass.Tie as tie
 
@@ -38,7 +40,9 @@ refill-requires c κs =
 again : (c : tie.After-refill Inv-loop μ-loop)
     → let a = c .before .before .before .before .before .args in
     let l = c .before .before .before .loop in
-    Passing (a .kind) (a .file .now) (a .from) (a .to) (a .count) (a .writing) (unpackByteOffset (a .kind) (a .count) (take (a .size) (textOctets (a .file .now) (a .from) (a .to)))) (a .out .now) (l .out) (c .refill .last .1 .1 .1 .0) (c .refill .result) (toZ w64 (l .pixel)) (l .k)
+    Passing (a .kind) (a .file .now) (a .from) (a .to) (a .count) (a .writing) (unpackByteOffset (a .kind) (a .count)
+    (take (a .size) (textOctets (a .file .now) (a .from) (a .to)))) (a .out .now) (l .out)
+    (c .refill .last .1 .1 .1 .0) (c .refill .result) (toZ w64 (l .pixel)) (l .k)
 again c = let e = c .refill .ensures in refilled (c .before .before .before .loop .inv) (e .0 .1) (e .0 .2) (e .1 .1) (e .1 .2)
 
 array-share-prefix-window : tie.Need-array-share-prefix-window Inv-loop μ-loop

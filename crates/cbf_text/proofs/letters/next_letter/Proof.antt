@@ -1,4 +1,5 @@
--- `letters::next_letter` meets its contract: the next place holds a letter, or the text has no letter left. Assumes nothing.
+-- `letters::next_letter` meets its contract: the next place holds a letter, or the text has no letter left. Assumes
+-- nothing.
 use mathlib.Core.Path.{_≡_, refl, _∙_}
 use mathlib.Core.Logic.{inl, inr}
 use borrow.Author.Needs.{needs}

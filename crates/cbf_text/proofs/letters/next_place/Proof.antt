@@ -26,8 +26,12 @@ returns c = let v = c .before .before .before .before .loop .inv in (v .0, v .1,
 loop-again : tie.Need-loop-again Inv-loop μ-loop
 loop-again c =
     let s = c .before .before .before .before .before .before in
-    let l = c .before .before .before .before .loop in
-    (omega arith, omega arith, l .inv .2 ∙ sixes-other (s .args .file .now) (l .i) (s .args .to) (omega arith) (omega arith) (sym (c .before .letter .ensures) ∙ c .if1 .left))
+    let l = c .before .before .before .before .loop in (
+      omega arith,
+      omega arith,
+      l .inv .2 ∙ sixes-other (s .args .file .now) (l .i) (s .args .to) (omega arith)
+          (omega arith) (sym (c .before .letter .ensures) ∙ c .if1 .left),
+    )
 
 returns-2 : tie.Need-returns-2 Inv-loop μ-loop
 returns-2 c = let v = c .before .loop .inv in (v .0, v .1, v .2, λ h. absurd (omega arith))

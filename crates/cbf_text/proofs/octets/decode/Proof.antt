@@ -1,4 +1,5 @@
--- `octets::decode` meets its contract: the octets of the text from at up to i are written from `from` up to k. Assumes nothing.
+-- `octets::decode` meets its contract: the octets of the text from at up to i are written from `from` up to k.
+-- Assumes nothing.
 use mathlib.Core.Path.{refl}
 use mathlib.Core.Logic.{inl, inr}
 use Prim.Native.Nat.{_-_}
@@ -63,7 +64,8 @@ loop-again : tie.Need-loop-again Inv-loop μ-loop
 loop-again c =
     let t = c .before .before .before .before .before .before .before in
     decodes-both
-    (decodes-both (past (t .before .before .before)) (decodes-still (t .decode-run .result) (c .before .before .before .before .if2 .taken) (t .decode-run .ensures .1)))
+    (decodes-both (past (t .before .before .before)) (decodes-still (t .decode-run .result)
+    (c .before .before .before .before .if2 .taken) (t .decode-run .ensures .1)))
     (c .before .before .decode-group .ensures .1)
 
 loop-again-2 : tie.Need-loop-again-2 Inv-loop μ-loop

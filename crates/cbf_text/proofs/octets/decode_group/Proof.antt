@@ -21,7 +21,8 @@ returns c =
     let second = third .before in
     let first = second .before in
     let p = first .before .before .before .pre in
-    decodes-group (p .0) (p .1) (p .3) (first .next-letter .ensures) (second .next-letter2 .ensures) (third .next-letter3 .ensures) (last .next-letter4 .ensures)
+    decodes-group (p .0) (p .1) (p .3) (first .next-letter .ensures) (second .next-letter2 .ensures)
+    (third .next-letter3 .ensures) (last .next-letter4 .ensures)
     (p .4)
     (c .before .before .put-group .ensures)
 

@@ -33,7 +33,8 @@ run c =
       few = omega arith;
       room = omega arith;
       groups = omega arith;
-      only = rw (← e) (letters-both (t .args .file .now) (t .args .at) (c .before .after-letters .result) (c .after-letters2 .result) (p .0) (q .0) (p .2) (q .2));
+      only = rw (← e) (letters-both (t .args .file .now) (t .args .at) (c .before .after-letters .result)
+          (c .after-letters2 .result) (p .0) (q .0) (p .2) (q .2));
     }
 
 numbers-of-requires : tie.Need-numbers-of-requires
@@ -46,8 +47,11 @@ join-requires c κs =
 
 returns : tie.Need-returns
 returns c =
-    let r = run (c .before .before .before .before .before .before .before .before) in
-    (r .groups, decodes-run r (replicate 128 0) refl (c .before .before .before .before .before .before .numbers-of .ensures) (c .before .before .join .ensures))
+    let r = run (c .before .before .before .before .before .before .before .before) in (
+      r .groups,
+      decodes-run r (replicate 128 0) refl
+          (c .before .before .before .before .before .before .numbers-of .ensures) (c .before .before .join .ensures),
+    )
 
 pub decode-run-spec : {M : Type 1} → statement M
 decode-run-spec =

@@ -18,7 +18,8 @@ returns-2 c =
     let a = S .args in
     let d = c .before .before .before .before .before .before .decode in
     let s = c .before .before .before .before .before .before .before .before .before .before .slide in
-    refilled-more (a .file .now) (a .to) (a .window .now) _ _ (a .w) _ _ (S .pre .2) (s .ensures .0) (d .ensures .0) (s .ensures .1) (c .before .if1 .left) (d .ensures .1)
+    refilled-more (a .file .now) (a .to) (a .window .now) _ _ (a .w) _ _ (S .pre .2) (s .ensures .0) (d .ensures .0)
+    (s .ensures .1) (c .before .if1 .left) (d .ensures .1)
 
 pub refill-spec : {M : Type 1} → statement M
 refill-spec =

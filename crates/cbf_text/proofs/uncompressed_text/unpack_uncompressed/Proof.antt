@@ -1,4 +1,5 @@
--- `unpack_uncompressed` meets its contract: k pixels are written, and the window brings the octets of the others. Assumes nothing.
+-- `unpack_uncompressed` meets its contract: k pixels are written, and the window brings the octets of the others.
+-- Assumes nothing.
 use Prim.Native.Nat.{ℕ, _+_, _*_, _-_, _<_, _≤_}
 use native.Mathlib.Omega.{arith}
 use mathlib.Core.Path.{refl, sym, ap, _∙_}
@@ -6,7 +7,7 @@ use lib.ListN.{take}
 use lib.Seq.{length-take-le}
 use Rattle.cbf_text.specs.Texts.{textOctets}
 use Rattle.cbf_pixels.proofs.UncompressedPixels.{has-octets}
-use Rattle.cbf_pixels.proofs.Loading.{loaded}
+use Rattle.cbf_unpack.proofs.UncompressedLaws.{loaded}
 use Rattle.cbf_text.proofs.WindowLaws.{all-octets, whole-pixels, Loaded, loaded-none, some-octets, loaded-more}
 use Rattle.cbf_text.proofs.uncompressed_text.unpack_uncompressed.Statement.{statement}
 use Rattle.cbf_text.proofs.uncompressed_text.unpack_uncompressed.Tie as tie
@@ -44,7 +45,9 @@ least-requires : tie.Need-least-requires Inv-loop μ-loop
 least-requires c κs = tt
 
 -- the window has the octets of the n pixels, and there is one
-turn : (c : tie.After-least Inv-loop μ-loop) → (c .least .result * c .before .before .before .before .before .before .before .octets-per .result ≤ c .before .before .before .refill .result .have) × (0 < c .least .result)
+turn : (c : tie.After-least Inv-loop μ-loop)
+    → (c .least .result * c .before .before .before .before .before .before .before .octets-per .result ≤
+    c .before .before .before .refill .result .have) × (0 < c .least .result)
 turn c =
     let S = c .before .before .before .before .before .before .before .before .before in
     let a = S .args in
@@ -52,7 +55,9 @@ turn c =
     let r = c .before .before .before .refill in
     let k = c .before .before .before .before .before .loop-test .taken in
     let A = all-octets (a .kind) (a .count) (a .size) _ (S .pre .4) (S .pre .3) ∙ ap (λ (i : ℕ). i * a .count) (sym (e .0)) in
-    let o = some-octets (a .kind) _ (a .file .now) (a .from) (a .to) _ (a .out .now) (c .before .before .before .before .before .before .loop .inv .1) (r .ensures .0 .0) (r .ensures .0 .1) (r .ensures .0 .2) (r .ensures .1 .2) (a .count) A k (e .1) (r .ensures .1 .0) in
+    let o = some-octets (a .kind) _ (a .file .now) (a .from) (a .to) _ (a .out .now)
+    (c .before .before .before .before .before .before .loop .inv .1) (r .ensures .0 .0) (r .ensures .0 .1)
+    (r .ensures .0 .2) (r .ensures .1 .2) (a .count) A k (e .1) (r .ensures .1 .0) in
     whole-pixels (c .least .result) _ _ _ (omega (arith, has-octets (a .kind))) o (omega arith) (c .least .ensures .1) (c .least .ensures .2)
 
 mul-used : tie.Need-mul-used Inv-loop μ-loop
@@ -79,7 +84,10 @@ loop-again c =
     let n = c .before .before .before .before .least .result in
     let m : l .k + n ≤ a .count = omega arith in (
       m,
-      loaded-more (a .kind) _ (a .file .now) (a .from) (a .to) _ (a .out .now) (l .inv .1) (r .ensures .0 .0) (r .ensures .0 .1) (r .ensures .0 .2) (r .ensures .1 .2) n _ (turn (c .before .before .before .before) .0) (c .before .before .before .before .before .before .before .before .before .before .before .octets-per .ensures .0) (omega arith) (omega arith) (r .ensures .1 .1) (c .before .unpack .ensures .1),
+      loaded-more (a .kind) _ (a .file .now) (a .from) (a .to) _ (a .out .now) (l .inv .1) (r .ensures .0 .0)
+          (r .ensures .0 .1) (r .ensures .0 .2) (r .ensures .1 .2) n _ (turn (c .before .before .before .before) .0)
+          (c .before .before .before .before .before .before .before .before .before .before .before .octets-per
+          .ensures .0) (omega arith) (omega arith) (r .ensures .1 .1) (c .before .unpack .ensures .1),
     )
 
 same-length : tie.Need-same-length Inv-loop μ-loop
@@ -90,7 +98,8 @@ returns c =
     let S = c .before .before .before .before in
     let a = S .args in
     let l = c .before .loop in
-    loaded (a .kind) _ _ (l .k) (a .count) _ (a .out .now) (l .out) refl (c .before .before .octets-per .ensures .0) (l .inv .1 .front) (omega arith) (all-octets (a .kind) (a .count) (a .size) _ (S .pre .4) (S .pre .3))
+    loaded (a .kind) _ _ (l .k) (a .count) _ (a .out .now) (l .out) refl (c .before .before .octets-per .ensures .0)
+    (l .inv .1 .front) (omega arith) (all-octets (a .kind) (a .count) (a .size) _ (S .pre .4) (S .pre .3))
 
 pub unpack-uncompressed-spec : {M : Type 1} → statement M
 unpack-uncompressed-spec =

@@ -1,4 +1,5 @@
--- `digits::put_number` meets its contract: with the digits from i on stored, storing those that are left gives all. Assumes nothing.
+-- `digits::put_number` meets its contract: with the digits from i on stored, storing those that are left gives all.
+-- Assumes nothing.
 use mathlib.Core.Path.{_≡_, ap, _∙_, sym}
 use mathlib.Core.List.{List}
 use Prim.Native.Nat.{ℕ, suc, _+_, _-_, _≤_}

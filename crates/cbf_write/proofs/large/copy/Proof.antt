@@ -41,7 +41,8 @@ copy-block-requires-2 c κs = let v = c .before .before .loop .inv in (omega (ar
 
 -- all bytes are copied
 last : (c : tie.After-copy-block2 Inv-loop μ-loop)
-    → let a = c .before .before .before .before .before .before .args in Copied (a .out .now) (a .at) (a .bytes .now) (c .copy-block2 .last .0) (c .copy-block2 .result)
+    → let a = c .before .before .before .before .before .before .args in Copied (a .out .now) (a .at) (a .bytes .now)
+    (c .copy-block2 .last .0) (c .copy-block2 .result)
 last c =
     let a = c .before .before .before .before .before .before .args in
     let l = c .before .before .before .loop in

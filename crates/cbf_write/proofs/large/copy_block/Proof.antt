@@ -1,4 +1,5 @@
--- `large::copy_block` meets its contract: the first loop holds j of the bytes, the second has copied k of them. Assumes nothing.
+-- `large::copy_block` meets its contract: the first loop holds j of the bytes, the second has copied k of them.
+-- Assumes nothing.
 use mathlib.Core.Path.{_≡_, refl, _∙_}
 use mathlib.Core.List.{[]}
 use Prim.Native.Nat.{ℕ, _+_, _-_, _<_, _≤_}

@@ -1,4 +1,5 @@
--- `put::put_short` meets its contract: the first i octets of the text are copied, and each block adds its own. Assumes nothing.
+-- `put::put_short` meets its contract: the first i octets of the text are copied, and each block adds its own.
+-- Assumes nothing.
 use mathlib.Core.Path.{refl}
 use mathlib.Core.Logic.{⊎-elim}
 use Prim.Native.Nat.{_+_, _-_, _<_}
@@ -42,12 +43,17 @@ put-block-requires-2 c κs = omega (arith, c .before .before .before .loop .inv 
 
 -- fewer than four octets are left
 joined : (c : tie.Joined1 Inv-loop μ-loop)
-    → Copied (c .before .before .before .before .before .args .out .now) (c .before .before .before .before .before .args .at) (c .before .before .before .before .before .args .text .now) (c .if1 .out) (c .if1 .i)
+    → Copied (c .before .before .before .before .before .args .out .now)
+    (c .before .before .before .before .before .args .at)
+    (c .before .before .before .before .before .args .text .now) (c .if1 .out) (c .if1 .i)
     × (length (c .before .before .before .before .before .args .text .now) < c .if1 .i + 4)
 joined c =
     let v = c .before .before .loop .inv in
     ⊎-elim
-    (λ w. (copied-as (copied-more v 4 (omega (arith, v .within)) (w .2 .ensures .0) (w .2 .ensures .1)) (w .5) (w .6), omega (arith, v .within, w .6, w .2 .ensures .0)))
+    (λ w. (
+      copied-as (copied-more v 4 (omega (arith, v .within)) (w .2 .ensures .0) (w .2 .ensures .1)) (w .5) (w .6),
+      omega (arith, v .within, w .6, w .2 .ensures .0),
+    ))
     (λ w. (copied-as v (w .1) (w .2), omega (arith, v .within, w .2, w .0 .left)))
     (c .if1 .came)
 
@@ -59,13 +65,18 @@ put-block-requires-3 c κs = let v = joined (c .before .before .before) .0 in om
 
 -- and at most one
 joined-2 : (c : tie.Joined2 Inv-loop μ-loop)
-    → Copied (c .before .before .before .before .before .before .before .args .out .now) (c .before .before .before .before .before .before .before .args .at) (c .before .before .before .before .before .before .before .args .text .now) (c .if2 .out) (c .if2 .i)
+    → Copied (c .before .before .before .before .before .before .before .args .out .now)
+    (c .before .before .before .before .before .before .before .args .at)
+    (c .before .before .before .before .before .before .before .args .text .now) (c .if2 .out) (c .if2 .i)
     × (length (c .before .before .before .before .before .before .before .args .text .now) < c .if2 .i + 2)
 joined-2 c =
     let j = joined (c .before .before) in
     let v = j .0 in
     ⊎-elim
-    (λ w. (copied-as (copied-more v 2 (omega (arith, v .within)) (w .2 .ensures .0) (w .2 .ensures .1)) (w .5) (w .6), omega (arith, j .1, w .6, w .2 .ensures .0)))
+    (λ w. (
+      copied-as (copied-more v 2 (omega (arith, v .within)) (w .2 .ensures .0) (w .2 .ensures .1)) (w .5) (w .6),
+      omega (arith, j .1, w .6, w .2 .ensures .0),
+    ))
     (λ w. (copied-as v (w .1) (w .2), omega (arith, v .within, w .2, w .0 .left)))
     (c .if2 .came)
 

@@ -1,2 +1,0 @@
--- What the listing's functions answer, and what they leave in the lent output.
-pub mod Outcomes

@@ -1,0 +1,11 @@
+-- An answer that is written where the lent output has room for it.
+use mathlib.Core.Bool.{cond}
+use mathlib.Core.List.{List}
+use Prim.Native.Nat.{ℕ}
+use lib.Dec.{leb}
+use lib.ListN.{length}
+use Rattle.cbf_answers.specs.Answers.{Outcome, gives, refuses}
+
+-- 15: "lent output shorter than the answer"
+unfoldable pub roomFor : List ℕ → ℕ → Outcome
+roomFor text room = cond (leb (length text) room) (gives (length text)) (refuses 15 0)

@@ -1,0 +1,3 @@
+// BASE64 text: its symbols and lines.
+pub mod base64;
+pub mod base64_text;

@@ -1,0 +1,4 @@
+pub mod Headers
+pub mod Found
+pub mod Describe
+pub mod SectionHeaders

@@ -1,0 +1,3 @@
+pub mod ListingLaws
+pub mod SectionLineLaws
+pub mod LinesLaws

@@ -1,0 +1,23 @@
+-- What the calls that list a file answer.
+use mathlib.Core.List.{List}
+use Prim.Native.Nat.{ℕ}
+use Rattle.cbf_walk.specs.Reading.{Item, Reading, refused, good}
+use Rattle.cbf_answers.specs.Answers.{Outcome, gives, refuses}
+use Rattle.cbf_format.specs.Listing.{listing}
+use Rattle.cbf_answers.specs.Rooms.{roomFor}
+use Rattle.cbf_format.specs.Sections as S
+use Rattle.cbf_format.specs.Files as F
+
+-- "Every call on a file reads it first", and gives reading's refusal
+unfoldable pub listOutcome : Reading (Item F.State S.Section) → ℕ → Outcome
+listOutcome (refused k p) room = refuses k p
+listOutcome (good its) room = roomFor (listing (good its)) room
+
+-- the listing, or the line of the refusal that the call gives
+abbrev pub shownFor : Outcome → List ℕ → List ℕ
+shownFor (gives n) text = text
+shownFor (refuses k p) text = listing (refused k p)
+
+unfoldable pub shown : Reading (Item F.State S.Section) → ℕ → List ℕ
+unfolding listOutcome
+shown r room = shownFor (listOutcome r room) (listing r)

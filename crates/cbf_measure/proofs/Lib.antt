@@ -1,0 +1,4 @@
+pub mod PartsLaws
+pub mod RangeLaws
+pub mod WindowLaws
+pub mod MeasureLaws

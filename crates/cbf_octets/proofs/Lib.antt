@@ -1,0 +1,4 @@
+pub mod OctetsLaws
+pub mod DifferenceLaws
+pub mod PlainLaws
+pub mod RestLaws

@@ -1,0 +1,5 @@
+pub mod Summing
+pub mod Mixed
+pub mod Passes
+pub mod Near
+pub mod Far

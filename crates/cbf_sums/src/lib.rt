@@ -1,0 +1,4 @@
+// Many differences summed up at once, in the first pass of unpacking.
+pub mod far;
+pub mod mixed;
+pub mod near;

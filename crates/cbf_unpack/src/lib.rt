@@ -1,0 +1,8 @@
+// The second pass of unpacking, uncompressed pixels, and the call that unpacks all pixels of octets.
+mod fill;
+mod uncompressed;
+mod unpacking;
+
+pub use fill::fill_part;
+pub use uncompressed::octets_per;
+pub use unpacking::unpack;

@@ -1,0 +1,3 @@
+// The first pass of unpacking: whether octets unpack.
+mod turn;
+pub mod validate;

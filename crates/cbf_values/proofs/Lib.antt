@@ -1,0 +1,4 @@
+pub mod ValueLaws
+pub mod HeaderLaws
+pub mod ContentTypeLaws
+pub mod KnownValueLaws

@@ -1,2 +1,0 @@
--- Room for an answer.
-pub mod Rooms
