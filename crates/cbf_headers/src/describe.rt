@@ -21,26 +21,13 @@ pub enum Described {
     As(Description),
 }
 
-fn octets_per(kind: ElementType) -> u64
-    ensures { λ r. ⌜ (r ≡ octetsPer kind) × (r ≤ 4) ⌝ }
-{
-    match kind {
-        ElementType::U8 => 1,
-        ElementType::S8 => 1,
-        ElementType::U16 => 2,
-        ElementType::S16 => 2,
-        ElementType::U32 => 4,
-        ElementType::S32 => 4,
-    }
-}
-
 // Whether size and elements agree.
 fn size_agrees(compression: Compression, kind: ElementType, size: u64, elements: u64) -> bool
     requires { ⌜ (size ≤ 2 ^ 32) × (elements ≤ 2 ^ 32) ⌝ }
     ensures { λ r. ⌜ r ≡ sizeAgrees compression kind size elements ⌝ }
 {
     match compression {
-        Compression::Uncompressed => size == elements * octets_per(kind),
+        Compression::Uncompressed => size == elements * cbf_pixels::octets_per(kind) as u64,
         Compression::ByteOffset => {
             if size < elements {
                 return false;

@@ -29,7 +29,7 @@ pub fn unpack_uncompressed(
     ensures { λ _. ⌜ now (out .exit) ≡ pixelsOf (unpackUncompressed kind count
         (take size (textOctets (now (file .entry)) from to))) ++ drop count (now (out .entry)) ⌝ }
 {
-    let width = cbf_unpack::octets_per(kind);
+    let width = cbf_pixels::octets_per(kind);
     let mut window = [0u8; 1536];
     let mut w = Window {
         at: from,

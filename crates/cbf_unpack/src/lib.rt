@@ -4,5 +4,4 @@ mod uncompressed;
 mod unpacking;
 
 pub use fill::fill_part;
-pub use uncompressed::octets_per;
 pub use unpacking::unpack;

@@ -12,19 +12,6 @@ ghost use Rattle.cbf_pixels.specs.PixelCalls.{pixelsOf};
 ghost use Rattle.cbf_octets.specs.Difference.{Halved};
 ghost use Rattle.cbf_unpack.specs.Uncompressed.{Width};
 
-pub fn octets_per(kind: ElementType) -> usize
-    ensures { λ r. ⌜ (r ≡ octetsPer kind) × (r ≤ 4) ⌝ }
-{
-    match kind {
-        ElementType::U8 => 1,
-        ElementType::S8 => 1,
-        ElementType::U16 => 2,
-        ElementType::S16 => 2,
-        ElementType::U32 => 4,
-        ElementType::S32 => 4,
-    }
-}
-
 fn is_signed(kind: ElementType) -> bool
     ensures { λ r. ⌜ r ≡ isSigned kind ⌝ }
 {
@@ -70,7 +57,7 @@ pub fn fill(kind: ElementType, octets: &[u8], count: usize, out: &mut [i64])
     ensures { λ _. ⌜ now (out .exit) ≡ pixelsOf (unpackUncompressed kind count (now (octets .entry)))
         ++ drop count (now (out .entry)) ⌝ }
 {
-    let width = octets_per(kind);
+    let width = cbf_pixels::octets_per(kind);
     let signed = is_signed(kind);
     let mut k: usize = 0;
     while k < count {

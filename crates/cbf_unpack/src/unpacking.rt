@@ -21,7 +21,7 @@ fn unpack_uncompressed(kind: ElementType, octets: &[u8], count: usize, out: &mut
     ensures output { λ _. ⌜ now (out .exit) ≡ unpackOutput Uncompressed kind count (now (octets .entry))
         (now (out .entry)) ⌝ }
 {
-    let size = uncompressed::octets_per(kind) * count;
+    let size = cbf_pixels::octets_per(kind) * count;
     if octets.len() != size {
         return cbf_answers::refused(13);
     }
