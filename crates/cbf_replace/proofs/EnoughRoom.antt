@@ -20,7 +20,7 @@ use Rattle.cbf_pixels.proofs.Bounds.{packed-bounds}
 use Rattle.cbf_format.specs.declared.Encoding.{Encoding}
 use Rattle.cbf_format.specs.declared.Encoding.the-variants.{Binary, Base64}
 use Rattle.cbf_format.specs.Text.{bytes}
-use Rattle.cbf_format.specs.Descriptions.{Description}
+use Rattle.cbf_format.specs.declared.Description.{Description}
 use Rattle.cbf_format.specs.Sections.{Section, opening, marker}
 use Rattle.cbf_format.specs.Files.{State, read}
 use Rattle.cbf_format.specs.Listing.{Placed, sections, numbered}
@@ -47,7 +47,7 @@ head-short d size =
     omega (
       arith,
       head-length d size,
-      type-short (d .type),
+      type-short (d .kind),
       digits-short 20 size,
       digits-short 20 (d .elements),
       line-short (bytes "X-Binary-ID: ") (d .id),

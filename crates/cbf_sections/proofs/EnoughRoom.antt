@@ -96,7 +96,7 @@ module _ {limit : ℕ} {file : List ℕ} {p : Placed} (d : DataAt limit file p) 
       let x = p .section .description in
       omega (
         arith,
-        elements-few (x .compression) (x .type) (x .size) (x .elements) (size-agrees (d .described .0) x (d .described .1)),
+        elements-few (x .compression) (x .kind) (x .size) (x .elements) (size-agrees (d .described .0) x (d .described .1)),
         octets-few (x .encoding) refl,
       )
 

@@ -2,7 +2,6 @@
 -- judging the headers from at on with these gives what judging all of them does. Assumes nothing.
 use Prim.Native.Nat.{_-_, _<_}
 use native.Mathlib.Omega.{arith}
-use mathlib.Core.Path.{sym, _∙_}
 use lib.ListN.{length}
 use denote.Ref.{now}
 use borrow.Author.Needs.{needs}
@@ -53,7 +52,7 @@ returns c =
     let p = parts-of k in
     let i = p .before .before .loop .inv in (
       judging-repeated i (p .header-parts .ensures) (k .before .before .before .known .ensures) (k .before .name .given .1)
-          (λ z. c .if1 .taken (c .before .field .ensures ∙ z)),
+          (λ z. omega (arith, c .if1 .taken, c .before .field .ensures)),
       i .range,
     )
 
@@ -76,7 +75,7 @@ returns-2 c =
     let p = parts-of k in
     let i = p .before .before .loop .inv in (
       judging-bad i (p .header-parts .ensures) (k .before .before .before .known .ensures) (k .before .name .given .1)
-          (sym (v .before .before .field .ensures) ∙ v .before .if1 .left) (v .known-value .ensures .0) (c .enum-told .given .1),
+          (omega (arith, v .before .if1 .left, v .before .before .field .ensures)) (v .known-value .ensures .0) (c .enum-told .given .1),
       i .range,
     )
 
@@ -95,7 +94,7 @@ loop-again c =
     let k = v .before .before .before in
     let p = parts-of k in
     judging-number (p .before .before .loop .inv) (p .header-parts .ensures) (k .before .before .before .known .ensures) (k .before .name .given .1)
-    (sym (v .before .before .field .ensures) ∙ v .before .if1 .left) (v .known-value .ensures .0) (c .before .before .v .given .1)
+    (omega (arith, v .before .if1 .left, v .before .before .field .ensures)) (v .known-value .ensures .0) (c .before .before .v .given .1)
     (v .known-value .ensures .1) (c .with-field .ensures)
 
 loop-less-2 : tie.Need-loop-less-2 Inv-loop μ-loop
