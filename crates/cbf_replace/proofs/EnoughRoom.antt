@@ -21,6 +21,7 @@ use Rattle.cbf_format.specs.declared.Encoding.{Encoding}
 use Rattle.cbf_format.specs.declared.Encoding.the-variants.{Binary, Base64}
 use Rattle.cbf_format.specs.Text.{bytes}
 use Rattle.cbf_format.specs.declared.Description.{Description}
+use Rattle.cbf_format.specs.Descriptions.{optional}
 use Rattle.cbf_format.specs.Sections.{Section, opening, marker}
 use Rattle.cbf_format.specs.Files.{State, read}
 use Rattle.cbf_format.specs.Listing.{Placed, sections, numbered}
@@ -50,10 +51,10 @@ head-short d size =
       type-short (d .kind),
       digits-short 20 size,
       digits-short 20 (d .elements),
-      line-short (bytes "X-Binary-ID: ") (d .id),
-      line-short (bytes "X-Binary-Size-Fastest-Dimension: ") (d .fastest),
-      line-short (bytes "X-Binary-Size-Second-Dimension: ") (d .second),
-      line-short (bytes "X-Binary-Size-Third-Dimension: ") (d .third),
+      line-short (bytes "X-Binary-ID: ") (optional (d .id)),
+      line-short (bytes "X-Binary-Size-Fastest-Dimension: ") (optional (d .fastest)),
+      line-short (bytes "X-Binary-Size-Second-Dimension: ") (optional (d .second)),
+      line-short (bytes "X-Binary-Size-Third-Dimension: ") (optional (d .third)),
     )
 
 house-short : (d : Description) (os : List ℕ) → length (house d os) ≤ 566 + length os
