@@ -39,10 +39,7 @@ pub fn catalogue(file: &[u8], limit: usize, out: &mut [u8]) -> Answer
         Counted::Count(n) => {
             let needed = 8 + 64 * n;
             if out.len() < needed {
-                return Answer::Refused(Refusal {
-                    number: 15,
-                    place: 0,
-                });
+                return cbf_answers::refused(15);
             }
             put_heading(out, n);
             entries::entries(file, limit, out, true);

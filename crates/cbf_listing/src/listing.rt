@@ -24,10 +24,7 @@ pub fn list(file: &[u8], limit: usize, out: &mut [u8]) -> Answer
         Measured::Refused(r) => Answer::Refused(r),
         Measured::Length(needed) => {
             if out.len() < needed {
-                return Answer::Refused(Refusal {
-                    number: 15,
-                    place: 0,
-                });
+                return cbf_answers::refused(15);
             }
             lines::lines(file, limit, out, true);
             Answer::Length(needed)
@@ -47,10 +44,7 @@ pub fn refusal_line(refusal: Refusal, out: &mut [u8]) -> Answer
     let place = refusal.place as u64;
     let n = 13 + cbf_write::digit_count(number) + cbf_write::digit_count(place);
     if out.len() < n {
-        return Answer::Refused(Refusal {
-            number: 15,
-            place: 0,
-        });
+        return cbf_answers::refused(15);
     }
     let after_word = cbf_write::put_text(out, 0, b"refused ");
     let after_number = cbf_write::put_number(out, after_word, number);

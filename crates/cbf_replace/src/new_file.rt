@@ -2,7 +2,6 @@
 use crate::head;
 use cbf_answers::Answer;
 use cbf_answers::FILE_LIMIT;
-use cbf_answers::Refusal;
 use cbf_format::Section;
 ghost use mathlib.Core.Path.{_≡_};
 ghost use Prim.Native.Nat.{_≤_};
@@ -39,25 +38,16 @@ pub fn replace_packed(file: &[u8], s: Section, size: usize, frame: &[i64], out: 
         (fileWith (now (file .entry)) s (packByteOffset (now (frame .entry)))) (now (out .entry)) ⌝ }
 {
     if FILE_LIMIT < size {
-        return Answer::Refused(Refusal {
-            number: 16,
-            place: 0,
-        });
+        return cbf_answers::refused(16);
     }
     // behind the octets: a line end and the closing boundary
     let span = head::head_length(s.description, size as u64) + size + 33;
     let length = s.from + span + (file.len() - s.to);
     if FILE_LIMIT < length {
-        return Answer::Refused(Refusal {
-            number: 15,
-            place: 0,
-        });
+        return cbf_answers::refused(15);
     }
     if out.len() < length {
-        return Answer::Refused(Refusal {
-            number: 15,
-            place: 0,
-        });
+        return cbf_answers::refused(15);
     }
     put_file(file, s, size, frame, out);
     Answer::Length(length)

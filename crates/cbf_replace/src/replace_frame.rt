@@ -1,7 +1,6 @@
 // The call.
 use crate::new_file;
 use cbf_answers::Answer;
-use cbf_answers::Refusal;
 use cbf_format::Encoding;
 use cbf_format::Numbered;
 use cbf_format::Section;
@@ -26,17 +25,11 @@ fn replace_section(file: &[u8], s: Section, frame: &[i64], out: &mut [u8]) -> An
     let d = s.description;
     let kind = d.kind;
     if frame.len() != d.elements as usize {
-        return Answer::Refused(Refusal {
-            number: 14,
-            place: 0,
-        });
+        return cbf_answers::refused(14);
     }
     let size = cbf_measure::measure::octet_count(kind, frame);
     match size {
-        Size::Outside => Answer::Refused(Refusal {
-            number: 14,
-            place: 0,
-        }),
+        Size::Outside => cbf_answers::refused(14),
         Size::Octets(n) => new_file::replace_packed(file, s, n, frame, out),
     }
 }
@@ -59,10 +52,7 @@ pub fn replace(file: &[u8], limit: usize, number: usize, frame: &[i64], out: &mu
             let encoding = d.encoding;
             match encoding {
                 Encoding::Binary => replace_section(file, s, frame, out),
-                Encoding::Base64 => Answer::Refused(Refusal {
-                    number: 18,
-                    place: 0,
-                }),
+                Encoding::Base64 => cbf_answers::refused(18),
             }
         }
     }

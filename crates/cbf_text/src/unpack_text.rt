@@ -2,7 +2,6 @@
 use crate::byte_offset_text;
 use crate::uncompressed_text;
 use cbf_answers::Answer;
-use cbf_answers::Refusal;
 use cbf_pixels::Compression;
 use cbf_pixels::ElementType;
 ghost use mathlib.Core.Path.{_≡_};
@@ -10,19 +9,10 @@ ghost use Prim.Native.Nat.{_*_, _≤_};
 ghost use lib.ListN.{length, take};
 ghost use Rattle.cbf_answers.specs.Limits.{pixelLimit};
 ghost use Rattle.cbf_pixels.specs.Uncompressed.{octetsPer};
-ghost use Rattle.cbf_answers.specs.Answers.{refuses, outcome};
+ghost use Rattle.cbf_answers.specs.Answers.{outcome};
 ghost use Rattle.cbf_pixels.specs.PixelCalls.{unpackOutcome, unpackOutput};
 ghost use Rattle.cbf_pixels.specs.declared.Compression.the-variants.{Uncompressed};
 ghost use Rattle.cbf_text.specs.Texts.{GoodText, textOctets};
-
-fn refused(number: u32) -> Answer
-    ensures { λ r. ⌜ outcome r ≡ refuses number 0 ⌝ }
-{
-    Answer::Refused(Refusal {
-        number: number,
-        place: 0,
-    })
-}
 
 // Unpacks count pixels from the text, which stands for size octets; as cbf_pixels::unpack does from octets. Octets
 // that do not unpack are known before the first pixel is written; an uncompressed section has none.
@@ -47,17 +37,17 @@ pub fn unpack(
     match compression {
         Compression::Uncompressed => {
             if out.len() < count {
-                return refused(15);
+                return cbf_answers::refused(15);
             }
             uncompressed_text::unpack_uncompressed(kind, file, from, to, size, count, out);
             Answer::Length(count)
         }
         Compression::ByteOffset => {
             if !byte_offset_text::pass(kind, file, from, to, size, count, out, false) {
-                return refused(13);
+                return cbf_answers::refused(13);
             }
             if out.len() < count {
-                return refused(15);
+                return cbf_answers::refused(15);
             }
             byte_offset_text::pass(kind, file, from, to, size, count, out, true);
             Answer::Length(count)

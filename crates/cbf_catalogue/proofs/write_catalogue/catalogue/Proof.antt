@@ -28,11 +28,13 @@ add-needed c = omega (arith, few c)
 
 returns : tie.Need-returns
 returns c =
-    let b = c .before .before in
+    let b = c .before .before .before in
     let m = b .before .before .before .before in
     let a = m .before .before .before .before .args in
     let is = sym (b .counted3 .given .1) ∙ m .entries .ensures .0 in
-    catalogue-no-room (a .limit) (now (a .file)) (now (a .out)) (m .entries .ensures .1) is (c .if1 .taken)
+    let r = catalogue-no-room (a .limit) (now (a .file)) (now (a .out)) (m .entries .ensures .1) is
+    (c .before .if1 .taken) in
+    (c .refused .ensures ∙ r .0, r .1)
 
 entries-requires-2 : tie.Need-entries-requires-2
 entries-requires-2 c κs =
@@ -75,5 +77,5 @@ catalogue-spec =
     tie.close
     (tie.spec
     entries-requires (λ c. search needs) (λ c. search needs) (λ c. search needs) mul-needed add-needed
-    (λ c. search needs) returns (λ c κs. search needs) entries-requires-2 (λ c. search needs) returns-2
-    (λ c. search needs) returns-3 (λ c. search needs) returns-4)
+    (λ c κs. search needs) (λ c. search needs) returns (λ c κs. search needs) entries-requires-2
+    (λ c. search needs) returns-2 (λ c. search needs) returns-3 (λ c. search needs) returns-4)

@@ -15,12 +15,12 @@ lines-requires c κs = λ e. let z : _≡_ {A = ℕ} 0 1 = cc in absurd (omega a
 
 returns : tie.Need-returns
 returns c =
-    let b = c .before .before in
+    let b = c .before .before .before in
     let m = b .before .before .before .before in
     let a = m .before .before .before .before .args in
     let r = list-no-room (F.read (a .limit) (now (a .file))) (now (a .out)) (b .measured2 .given .0 .0)
     (sym (b .measured2 .given .1) ∙ m .lines .ensures .0) (omega (arith, ap length (m .lines .ensures .1))) in
-    (r .0, m .lines .ensures .1 ∙ r .1)
+    (c .refused .ensures ∙ r .0, m .lines .ensures .1 ∙ r .1)
 
 lines-requires-2 : tie.Need-lines-requires-2
 lines-requires-2 c κs =
@@ -53,5 +53,5 @@ pub list-spec : {M : Type 1} → statement M
 list-spec =
     tie.close
     (tie.spec
-    lines-requires (λ c. search needs) (λ c. search needs) (λ c. search needs) returns lines-requires-2
-    (λ c. search needs) returns-2 (λ c. search needs) returns-3)
+    lines-requires (λ c. search needs) (λ c. search needs) (λ c κs. search needs) (λ c. search needs) returns
+    lines-requires-2 (λ c. search needs) returns-2 (λ c. search needs) returns-3)

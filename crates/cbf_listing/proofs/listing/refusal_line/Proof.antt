@@ -14,10 +14,12 @@ use Rattle.cbf_listing.proofs.listing.refusal_line.Tie as tie
 
 returns : tie.Need-returns
 returns c =
-    let a = c .before .before .before .before .before .args in
+    let a = c .before .before .before .before .before .before .args in
     let k = a .refusal .number in
     let p = a .refusal .place in
-    no-room (listing (refused k p)) (now (a .out)) refl (omega (arith, refusal-length k p)) (c .if1 .taken)
+    let r = no-room (listing (refused k p)) (now (a .out)) refl (omega (arith, refusal-length k p))
+    (c .before .if1 .taken) in
+    (c .refused .ensures ∙ r .0, r .1)
 
 returns-2 : tie.Need-returns-2
 returns-2 c =
@@ -43,6 +45,6 @@ refusal-line-spec =
     tie.close
     (tie.spec
     (λ c. search needs) (λ c κs. search needs) (λ c. search needs) (λ c κs. search needs) (λ c. search needs)
-    returns (λ c. search needs) (λ c κs. search needs) (λ c κs. search needs) (λ c. search needs)
-    (λ c κs. search needs) (λ c κs. search needs) (λ c. search needs) (λ c κs. search needs)
-    (λ c. search needs) returns-2)
+    (λ c κs. search needs) returns (λ c. search needs) (λ c κs. search needs) (λ c κs. search needs)
+    (λ c. search needs) (λ c κs. search needs) (λ c κs. search needs) (λ c. search needs)
+    (λ c κs. search needs) (λ c. search needs) returns-2)

@@ -1,6 +1,6 @@
 -- `replace_packed` meets its contract: the length is the new file's, and it is written where it has room. Assumes
 -- nothing.
-use mathlib.Core.Path.{_≡_}
+use mathlib.Core.Path.{_≡_, _∙_}
 use Prim.Native.Nat.{_+_, _-_}
 use native.Mathlib.Omega.{arith}
 use borrow.Author.Needs.{needs}
@@ -22,27 +22,33 @@ length-is m =
 
 returns : tie.Need-returns
 returns c =
-    let s = c .before .before .before in
+    let s = c .before .before .before .before in
     let a = s .args in
     let os = packByteOffset (a .frame .now) in
-    packed-large os (fileWith (a .file .now) (a .s) os) (a .out .now) (omega (arith, s .pre .1 .counted, c .if1 .taken))
+    let r = packed-large os (fileWith (a .file .now) (a .s) os) (a .out .now)
+    (omega (arith, s .pre .1 .counted, c .before .if1 .taken)) in
+    (c .refused .ensures ∙ r .0, r .1)
 
 returns-2 : tie.Need-returns-2
 returns-2 c =
-    let m = c .before .before .before in
-    let s = m .before .before .before .before in
-    let a = s .args in
-    let os = packByteOffset (a .frame .now) in
-    packed-long os (fileWith (a .file .now) (a .s) os) (a .out .now) (omega (arith, s .pre .1 .counted, m .before .if1 .left)) (length-is m) (c .if2 .taken)
-
-returns-3 : tie.Need-returns-3
-returns-3 c =
     let m = c .before .before .before .before in
     let s = m .before .before .before .before in
     let a = s .args in
     let os = packByteOffset (a .frame .now) in
-    packed-no-room os (fileWith (a .file .now) (a .s) os) (a .out .now)
-    (omega (arith, s .pre .1 .counted, m .before .if1 .left)) (length-is m) (c .before .if2 .left) (c .if3 .taken)
+    let r = packed-long os (fileWith (a .file .now) (a .s) os) (a .out .now)
+    (omega (arith, s .pre .1 .counted, m .before .if1 .left)) (length-is m) (c .before .if2 .taken) in
+    (c .refused2 .ensures ∙ r .0, r .1)
+
+returns-3 : tie.Need-returns-3
+returns-3 c =
+    let m = c .before .before .before .before .before in
+    let s = m .before .before .before .before in
+    let a = s .args in
+    let os = packByteOffset (a .frame .now) in
+    let r = packed-no-room os (fileWith (a .file .now) (a .s) os) (a .out .now)
+    (omega (arith, s .pre .1 .counted, m .before .if1 .left)) (length-is m) (c .before .before .if2 .left)
+    (c .before .if3 .taken) in
+    (c .refused3 .ensures ∙ r .0, r .1)
 
 put-file-requires : tie.Need-put-file-requires
 put-file-requires c κs =
@@ -65,6 +71,6 @@ pub replace-packed-spec : {M : Type 1} → statement M
 replace-packed-spec =
     tie.close
     (tie.spec
-    returns (λ c κs. search needs) (λ c. search needs) (λ c. search needs) (λ c. search needs)
-    (λ c. search needs) (λ c. search needs) returns-2 returns-3 put-file-requires (λ c. search needs)
-    returns-4)
+    (λ c κs. search needs) returns (λ c κs. search needs) (λ c. search needs) (λ c. search needs)
+    (λ c. search needs) (λ c. search needs) (λ c. search needs) (λ c κs. search needs) returns-2
+    (λ c κs. search needs) returns-3 put-file-requires (λ c. search needs) returns-4)

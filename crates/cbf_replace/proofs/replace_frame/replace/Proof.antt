@@ -1,5 +1,5 @@
 -- `replace` meets its contract, by those of `numbered_section` and `replace_section`. Assumes nothing.
-use mathlib.Core.Path.{_≡_, subst}
+use mathlib.Core.Path.{_≡_, subst, _∙_}
 use denote.Ref.{now}
 use borrow.Author.Needs.{needs}
 use Rattle.cbf_format.specs.Listing.{Placed}
@@ -49,14 +49,17 @@ returns-2 c =
 
 returns-3 : tie.Need-returns-3
 returns-3 c =
-    let b = c .before .before .before .before in
+    let b = c .before .before .before .before .before in
     let a = b .before .before .before .before .before .args in
     let h = here b in
-    replace-text (now (a .file)) (F.read (a .limit) (now (a .file))) (a .number) (now (a .frame)) (now (a .out)) (h .1) (h .2) (c .enum-told2 .given .1)
+    let r = replace-text (now (a .file)) (F.read (a .limit) (now (a .file))) (a .number) (now (a .frame)) (now (a .out))
+    (h .1) (h .2) (c .before .enum-told2 .given .1) in
+    (c .refused .ensures ∙ r .0, r .1)
 
 pub replace-spec : {M : Type 1} → statement M
 replace-spec =
     tie.close
     (tie.spec
     (λ c κs. search needs) (λ c. search needs) (λ c. search needs) (λ c. search needs)
-    replace-section-requires (λ c. search needs) returns (λ c. search needs) returns-2 returns-3)
+    replace-section-requires (λ c. search needs) (λ c κs. search needs) returns (λ c. search needs) returns-2
+    returns-3)

@@ -9,8 +9,10 @@ use Rattle.cbf_replace.proofs.replace_frame.replace_section.Tie as tie
 
 returns : tie.Need-returns
 returns c =
-    let a = c .before .before .before .before .args in
-    wrong-count (a .s .description) (a .frame .now) (fileWith (a .file .now) (a .s) (packByteOffset (a .frame .now))) (a .out .now) (c .if1 .taken)
+    let a = c .before .before .before .before .before .args in
+    let r = wrong-count (a .s .description) (a .frame .now) (fileWith (a .file .now) (a .s)
+    (packByteOffset (a .frame .now))) (a .out .now) (c .before .if1 .taken) in
+    (c .refused .ensures ∙ r .0, r .1)
 
 replace-packed-requires : tie.Need-replace-packed-requires
 replace-packed-requires c κs =
@@ -23,10 +25,12 @@ replace-packed-requires c κs =
 
 returns-2 : tie.Need-returns-2
 returns-2 c =
-    let m = c .before .before in
+    let m = c .before .before .before in
     let a = m .before .before .before .before .before .args in
-    pixel-outside (a .s .description) (a .frame .now) (fileWith (a .file .now) (a .s) (packByteOffset (a .frame .now))) (a .out .now) (m .before .if1 .left)
-    (sym (c .enum-told .given .1) ∙ m .octet-count .ensures)
+    let r = pixel-outside (a .s .description) (a .frame .now) (fileWith (a .file .now) (a .s)
+    (packByteOffset (a .frame .now))) (a .out .now) (m .before .if1 .left)
+    (sym (c .before .enum-told .given .1) ∙ m .octet-count .ensures) in
+    (c .refused2 .ensures ∙ r .0, r .1)
 
 returns-3 : tie.Need-returns-3
 returns-3 c =
@@ -41,5 +45,5 @@ pub replace-section-spec : {M : Type 1} → statement M
 replace-section-spec =
     tie.close
     (tie.spec
-    returns (λ c κs. search needs) (λ c. search needs) (λ c. search needs) replace-packed-requires returns-2
-    (λ c. search needs) returns-3)
+    (λ c κs. search needs) returns (λ c κs. search needs) (λ c. search needs) (λ c κs. search needs)
+    (λ c. search needs) replace-packed-requires returns-2 (λ c. search needs) returns-3)
