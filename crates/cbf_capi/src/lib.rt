@@ -12,11 +12,10 @@ ghost use Rattle.cbf_pixels.specs.Pixels.{packByteOffset};
 ghost use Rattle.cbf_answers.specs.Answers.{refuses, outcome, written};
 ghost use Rattle.cbf_answers.specs.Limits.{lineLimit};
 ghost use Rattle.cbf_format.specs.Files.{read};
-ghost use Rattle.cbf_format.specs.Listing.{listing};
-ghost use Rattle.cbf_listing.specs.Listing.{listOutcome};
-ghost use Rattle.cbf_catalogue.specs.WriteCatalogue.{catalogueOutcome, catalogueText};
-ghost use Rattle.cbf_sections.specs.SectionCalls.{readOutcome, octetsOf, octetsOutcome, frameOutcome, framePixels};
-ghost use Rattle.cbf_replace.specs.ReplaceCalls.{replaceOutcome, replacedBy};
+ghost use Rattle.cbf_listing.specs.Listing.{listOutcome, listOutput};
+ghost use Rattle.cbf_catalogue.specs.WriteCatalogue.{catalogueOutcome, catalogueOutput};
+ghost use Rattle.cbf_sections.specs.SectionCalls.{readOutcome, octetsOf, octetsOutcome, frameOutcome, frameOutput};
+ghost use Rattle.cbf_replace.specs.ReplaceCalls.{replaceOutcome, replaceOutput};
 ghost use Rattle.cbf_capi.specs.Words.{element, compressed, packCall, unpackCall, unpackedBy, octetsStart};
 ghost use Rattle.cbf_capi.specs.Words.{word};
 
@@ -145,9 +144,7 @@ pub extern "C" fn cbf_octets(file: &[u8], section: usize, start: &mut u64) -> u6
 pub extern "C" fn cbf_unpack(file: &[u8], section: usize, pixels: &mut [i64]) -> u64
     ensures answer { λ r. ⌜ r ≡ word (frameOutcome (read lineLimit (now (file .entry))) section
         (length (now (pixels .entry)))) ⌝ }
-    ensures output { λ _. ⌜ now (pixels .exit) ≡ written (frameOutcome (read lineLimit (now (file .entry))) section
-        (length (now (pixels .entry)))) (framePixels (read lineLimit (now (file .entry))) section)
-        (now (pixels .entry)) ⌝ }
+    ensures output { λ _. ⌜ now (pixels .exit) ≡ frameOutput (read lineLimit (now (file .entry))) section (now (pixels .entry)) ⌝ }
 {
     word_of(cbf::unpack(file, LINE_LIMIT, section, pixels))
 }
@@ -156,8 +153,7 @@ pub extern "C" fn cbf_unpack(file: &[u8], section: usize, pixels: &mut [i64]) ->
 #[no_mangle]
 pub extern "C" fn cbf_listing(file: &[u8], out: &mut [u8]) -> u64
     ensures answer { λ r. ⌜ r ≡ word (listOutcome (read lineLimit (now (file .entry))) (length (now (out .entry)))) ⌝ }
-    ensures output { λ _. ⌜ now (out .exit) ≡ written (listOutcome (read lineLimit (now (file .entry)))
-        (length (now (out .entry)))) (listing (read lineLimit (now (file .entry)))) (now (out .entry)) ⌝ }
+    ensures output { λ _. ⌜ now (out .exit) ≡ listOutput (read lineLimit (now (file .entry))) (now (out .entry)) ⌝ }
 {
     word_of(cbf::list(file, LINE_LIMIT, out))
 }
@@ -167,8 +163,7 @@ pub extern "C" fn cbf_listing(file: &[u8], out: &mut [u8]) -> u64
 pub extern "C" fn cbf_catalogue(file: &[u8], out: &mut [u8]) -> u64
     ensures answer { λ r. ⌜ r ≡ word (catalogueOutcome (read lineLimit (now (file .entry)))
         (length (now (out .entry)))) ⌝ }
-    ensures output { λ _. ⌜ now (out .exit) ≡ written (catalogueOutcome (read lineLimit (now (file .entry)))
-        (length (now (out .entry)))) (catalogueText (read lineLimit (now (file .entry)))) (now (out .entry)) ⌝ }
+    ensures output { λ _. ⌜ now (out .exit) ≡ catalogueOutput (read lineLimit (now (file .entry))) (now (out .entry)) ⌝ }
 {
     word_of(cbf::catalogue(file, LINE_LIMIT, out))
 }
@@ -178,10 +173,8 @@ pub extern "C" fn cbf_catalogue(file: &[u8], out: &mut [u8]) -> u64
 pub extern "C" fn cbf_replace(file: &[u8], section: usize, frame: &[i64], out: &mut [u8]) -> u64
     ensures answer { λ r. ⌜ r ≡ word (replaceOutcome (now (file .entry)) (read lineLimit (now (file .entry)))
         section (now (frame .entry)) (length (now (out .entry)))) ⌝ }
-    ensures output { λ _. ⌜ now (out .exit) ≡ written (replaceOutcome (now (file .entry))
-        (read lineLimit (now (file .entry))) section (now (frame .entry)) (length (now (out .entry))))
-        (replacedBy (now (file .entry)) (read lineLimit (now (file .entry))) section (now (frame .entry)))
-        (now (out .entry)) ⌝ }
+    ensures output { λ _. ⌜ now (out .exit)
+        ≡ replaceOutput (now (file .entry)) (read lineLimit (now (file .entry))) section (now (frame .entry)) (now (out .entry)) ⌝ }
 {
     word_of(cbf::replace(file, LINE_LIMIT, section, frame, out))
 }

@@ -2,8 +2,9 @@
 use mathlib.Core.Option.{Option, none, some}
 use mathlib.Core.List.{List, [], _∷_, _++_}
 use Prim.Native.Nat.{ℕ}
+use lib.ListN.{length}
 use Rattle.cbf_walk.specs.Reading.{Item, Reading, refused, good}
-use Rattle.cbf_answers.specs.Answers.{Outcome, refuses}
+use Rattle.cbf_answers.specs.Answers.{Outcome, refuses, written}
 use Rattle.cbf_pixels.specs.Octets.{octets}
 use Rattle.cbf_format.specs.Text.{bytes}
 use Rattle.cbf_format.specs.Listing.{sections}
@@ -29,3 +30,7 @@ catalogueOutcome (good its) room = cataloguedOr (longName (sections 0 its)) (cat
 unfoldable pub catalogueText : Reading (Item F.State S.Section) → List ℕ
 catalogueText (refused k p) = []
 catalogueText (good its) = catalogue (sections 0 its)
+
+-- what is in the output after `catalogue`
+abbrev pub catalogueOutput : Reading (Item F.State S.Section) → List ℕ → List ℕ
+catalogueOutput r out = written (catalogueOutcome r (length out)) (catalogueText r) out

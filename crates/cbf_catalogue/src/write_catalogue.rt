@@ -8,8 +8,8 @@ ghost use mathlib.Core.Path.{_≡_};
 ghost use Prim.Native.Nat.{_≤_};
 ghost use lib.ListN.{length};
 ghost use lib.Seq.{sets};
-ghost use Rattle.cbf_answers.specs.Answers.{outcome, written};
-ghost use Rattle.cbf_catalogue.specs.WriteCatalogue.{heading, catalogueOutcome, catalogueText};
+ghost use Rattle.cbf_answers.specs.Answers.{outcome};
+ghost use Rattle.cbf_catalogue.specs.WriteCatalogue.{heading, catalogueOutcome, catalogueOutput};
 ghost use Rattle.cbf_format.specs.Files as F;
 
 // Writes what stands before the entries.
@@ -26,8 +26,7 @@ fn put_heading(out: &mut [u8], count: usize)
 pub fn catalogue(file: &[u8], limit: usize, out: &mut [u8]) -> Answer
     ensures answer { λ r. ⌜ outcome r ≡ catalogueOutcome (F.read limit (now (file .entry)))
         (length (now (out .entry))) ⌝ }
-    ensures output { λ _. ⌜ now (out .exit) ≡ written (catalogueOutcome (F.read limit (now (file .entry)))
-        (length (now (out .entry)))) (catalogueText (F.read limit (now (file .entry)))) (now (out .entry)) ⌝ }
+    ensures output { λ _. ⌜ now (out .exit) ≡ catalogueOutput (F.read limit (now (file .entry))) (now (out .entry)) ⌝ }
 {
     let counted = entries::entries(file, limit, out, false);
     match counted {

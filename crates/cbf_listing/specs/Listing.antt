@@ -1,8 +1,9 @@
 -- What the calls that list a file answer.
 use mathlib.Core.List.{List}
 use Prim.Native.Nat.{ℕ}
+use lib.ListN.{length}
 use Rattle.cbf_walk.specs.Reading.{Item, Reading, refused, good}
-use Rattle.cbf_answers.specs.Answers.{Outcome, gives, refuses}
+use Rattle.cbf_answers.specs.Answers.{Outcome, gives, refuses, written}
 use Rattle.cbf_format.specs.Listing.{listing}
 use Rattle.cbf_answers.specs.Rooms.{roomFor}
 use Rattle.cbf_format.specs.Sections as S
@@ -21,3 +22,7 @@ shownFor (refuses k p) text = listing (refused k p)
 unfoldable pub shown : Reading (Item F.State S.Section) → ℕ → List ℕ
 unfolding listOutcome
 shown r room = shownFor (listOutcome r room) (listing r)
+
+-- what is in the output after `list`
+abbrev pub listOutput : Reading (Item F.State S.Section) → List ℕ → List ℕ
+listOutput r out = written (listOutcome r (length out)) (listing r) out

@@ -6,18 +6,17 @@ use cbf_answers::Refusal;
 ghost use mathlib.Core.Path.{_≡_};
 ghost use lib.ListN.{length};
 ghost use Rattle.cbf_walk.specs.Reading.{refused};
-ghost use Rattle.cbf_answers.specs.Answers.{outcome, written};
+ghost use Rattle.cbf_answers.specs.Answers.{outcome};
 ghost use Rattle.cbf_format.specs.Listing.{listing};
-ghost use Rattle.cbf_answers.specs.Rooms.{roomFor};
-ghost use Rattle.cbf_listing.specs.Listing.{listOutcome, shown};
+ghost use Rattle.cbf_answers.specs.Rooms.{roomFor, roomOutput};
+ghost use Rattle.cbf_listing.specs.Listing.{listOutcome, shown, listOutput};
 ghost use Rattle.cbf_format.specs.Files as F;
 
 // Writes the listing of the file, whose text lines have at most limit characters, to out: reading's refusal, 15, or
 // the listing's length.
 pub fn list(file: &[u8], limit: usize, out: &mut [u8]) -> Answer
     ensures answer { λ r. ⌜ outcome r ≡ listOutcome (F.read limit (now (file .entry))) (length (now (out .entry))) ⌝ }
-    ensures output { λ _. ⌜ now (out .exit) ≡ written (listOutcome (F.read limit (now (file .entry)))
-        (length (now (out .entry)))) (listing (F.read limit (now (file .entry)))) (now (out .entry)) ⌝ }
+    ensures output { λ _. ⌜ now (out .exit) ≡ listOutput (F.read limit (now (file .entry))) (now (out .entry)) ⌝ }
 {
     let measured = lines::lines(file, limit, out, false);
     match measured {
@@ -37,8 +36,7 @@ pub fn refusal_line(refusal: Refusal, out: &mut [u8]) -> Answer
     ensures answer { λ r. ⌜ outcome r ≡ roomFor (listing (refused (refusal .number) (refusal .place)))
         (length (now (out .entry))) ⌝ }
     ensures output { λ _. ⌜ now (out .exit)
-        ≡ written (roomFor (listing (refused (refusal .number) (refusal .place))) (length (now (out .entry))))
-        (listing (refused (refusal .number) (refusal .place))) (now (out .entry)) ⌝ }
+        ≡ roomOutput (listing (refused (refusal .number) (refusal .place))) (now (out .entry)) ⌝ }
 {
     let number = refusal.number as u64;
     let place = refusal.place as u64;
@@ -58,9 +56,8 @@ pub fn refusal_line(refusal: Refusal, out: &mut [u8]) -> Answer
 pub fn listing_or_refusal(file: &[u8], limit: usize, out: &mut [u8]) -> Answer
     ensures answer { λ r. ⌜ outcome r ≡ roomFor (shown (F.read limit (now (file .entry)))
         (length (now (out .entry)))) (length (now (out .entry))) ⌝ }
-    ensures output { λ _. ⌜ now (out .exit) ≡ written (roomFor (shown (F.read limit (now (file .entry)))
-        (length (now (out .entry)))) (length (now (out .entry)))) (shown (F.read limit (now (file .entry)))
-        (length (now (out .entry)))) (now (out .entry)) ⌝ }
+    ensures output { λ _. ⌜ now (out .exit)
+        ≡ roomOutput (shown (F.read limit (now (file .entry))) (length (now (out .entry)))) (now (out .entry)) ⌝ }
 {
     let answer = list(file, limit, out);
     match answer {

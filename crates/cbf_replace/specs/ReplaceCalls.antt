@@ -8,7 +8,7 @@ use lib.ListN.{length}
 use lib.IntN.{ℤ}
 use Rattle.cbf_walk.specs.Reading.{Item, Reading}
 use Rattle.cbf_pixels.specs.Pixels.{least, greatest, allWithin, packByteOffset}
-use Rattle.cbf_answers.specs.Answers.{Outcome, refuses}
+use Rattle.cbf_answers.specs.Answers.{Outcome, refuses, written}
 use Rattle.cbf_answers.specs.Limits.{octetLimit, fileLimit}
 use Rattle.cbf_format.specs.declared.Encoding.{Encoding}
 use Rattle.cbf_format.specs.declared.Encoding.the-variants.{Binary, Base64}
@@ -56,3 +56,7 @@ newFile file (value p) frame = replacedFile file p (packByteOffset frame)
 -- the file with the section's span in house form with the frame
 unfoldable pub replacedBy : List ℕ → Reading (Item State Section) → ℕ → List ℤ → List ℕ
 replacedBy file r n frame = newFile file (sectionNumbered r n) frame
+
+-- what is in the output after `replace`
+abbrev pub replaceOutput : List ℕ → Reading (Item State Section) → ℕ → List ℤ → List ℕ → List ℕ
+replaceOutput file r n frame out = written (replaceOutcome file r n frame (length out)) (replacedBy file r n frame) out

@@ -9,7 +9,7 @@ ghost use mathlib.Core.Path.{_≡_};
 ghost use lib.ListN.{length};
 ghost use Rattle.cbf_pixels.specs.Pixels.{packByteOffset};
 ghost use Rattle.cbf_answers.specs.Answers.{outcome, written};
-ghost use Rattle.cbf_replace.specs.ReplaceCalls.{replaceFitting, replaceOutcome, replacedBy};
+ghost use Rattle.cbf_replace.specs.ReplaceCalls.{replaceFitting, replaceOutcome, replaceOutput};
 ghost use Rattle.cbf_replace.specs.NewFiles.{fileWith, SpanIn};
 ghost use Rattle.cbf_format.specs.Files as F;
 
@@ -39,10 +39,8 @@ fn replace_section(file: &[u8], s: Section, frame: &[i64], out: &mut [u8]) -> An
 pub fn replace(file: &[u8], limit: usize, number: usize, frame: &[i64], out: &mut [u8]) -> Answer
     ensures answer { λ r. ⌜ outcome r ≡ replaceOutcome (now (file .entry)) (F.read limit (now (file .entry))) number
         (now (frame .entry)) (length (now (out .entry))) ⌝ }
-    ensures output { λ _. ⌜ now (out .exit) ≡ written (replaceOutcome (now (file .entry))
-        (F.read limit (now (file .entry))) number (now (frame .entry)) (length (now (out .entry))))
-        (replacedBy (now (file .entry)) (F.read limit (now (file .entry))) number (now (frame .entry)))
-        (now (out .entry)) ⌝ }
+    ensures output { λ _. ⌜ now (out .exit)
+        ≡ replaceOutput (now (file .entry)) (F.read limit (now (file .entry))) number (now (frame .entry)) (now (out .entry)) ⌝ }
 {
     let numbered = cbf_reader::numbered_section(file, limit, number);
     match numbered {

@@ -8,7 +8,7 @@ use lib.ListN.{length}
 use lib.Seq.{slice}
 use lib.IntN.{ℤ}
 use Rattle.cbf_walk.specs.Reading.{Item, Reading, refused, good}
-use Rattle.cbf_answers.specs.Answers.{Outcome, gives, refuses}
+use Rattle.cbf_answers.specs.Answers.{Outcome, gives, refuses, written}
 use Rattle.cbf_pixels.specs.PixelCalls.{isSome, pixelsOf, unpackPixels}
 use Rattle.cbf_format.specs.declared.Encoding.{Encoding}
 use Rattle.cbf_format.specs.declared.Encoding.the-variants.{Binary, Base64}
@@ -156,3 +156,7 @@ framePixels r n = pixelsIn (sectionNumbered r n)
 abbrev pub placedAt : ℕ → Outcome → Outcome
 placedAt first (gives n) = gives n
 placedAt first (refuses k p) = cond (eqb k 13) (refuses k first) (refuses k p)
+
+-- what is in the output after `unpack`
+abbrev pub frameOutput : Reading (Item F.State S.Section) → ℕ → List ℤ → List ℤ
+frameOutput r n out = written (frameOutcome r n (length out)) (framePixels r n) out

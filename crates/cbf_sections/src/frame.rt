@@ -7,9 +7,9 @@ use cbf_format::Section;
 ghost use mathlib.Core.Path.{_≡_};
 ghost use lib.ListN.{length};
 ghost use Rattle.cbf_format.specs.Listing.{Placed};
-ghost use Rattle.cbf_answers.specs.Answers.{outcome, written};
+ghost use Rattle.cbf_answers.specs.Answers.{outcome};
 ghost use Rattle.cbf_pixels.specs.PixelCalls.{unpackOutcome, unpackOutput};
-ghost use Rattle.cbf_sections.specs.SectionCalls.{placedAt, frameOutcome, framePixels};
+ghost use Rattle.cbf_sections.specs.SectionCalls.{placedAt, frameOutcome, frameOutput};
 ghost use Rattle.cbf_sections.specs.FramePlaces.{FrameOf};
 ghost use Rattle.cbf_format.specs.Files as F;
 
@@ -72,8 +72,7 @@ fn unpack_octets(file: &[u8], s: Section, out: &mut [i64]) -> Answer
 pub fn unpack(file: &[u8], limit: usize, number: usize, out: &mut [i64]) -> Answer
     ensures answer { λ r. ⌜ outcome r ≡ frameOutcome (F.read limit (now (file .entry))) number
         (length (now (out .entry))) ⌝ }
-    ensures output { λ _. ⌜ now (out .exit) ≡ written (frameOutcome (F.read limit (now (file .entry))) number
-        (length (now (out .entry)))) (framePixels (F.read limit (now (file .entry))) number) (now (out .entry)) ⌝ }
+    ensures output { λ _. ⌜ now (out .exit) ≡ frameOutput (F.read limit (now (file .entry))) number (now (out .entry)) ⌝ }
 {
     let numbered = cbf_reader::numbered_section(file, limit, number);
     match numbered {
