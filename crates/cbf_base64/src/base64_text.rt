@@ -2,6 +2,8 @@
 use crate::base64;
 use crate::base64::Groups;
 use cbf_answers::Refusal;
+use cbf_format::CLOSING;
+use cbf_format::CLOSING_LENGTH;
 use cbf_lines::closing;
 use cbf_lines::closing::Next;
 use cbf_lines::line;
@@ -40,11 +42,11 @@ fn closing_line(file: &[u8], at: usize) -> Next
     requires { ⌜ at ≤ length (now file) ⌝ }
     ensures { λ r. ⌜ r ≡ closingAt at (lineOf (drop at (now (file .entry)))) ⌝ }
 {
-    if file.len() - at < 31 {
+    if file.len() - at < CLOSING_LENGTH {
         return Next::Missing;
     }
-    let to = at + 31;
-    if !text::is_word(file, at, to, b"--CIF-BINARY-FORMAT-SECTION----") {
+    let to = at + CLOSING_LENGTH;
+    if !text::is_word(file, at, to, &CLOSING) {
         return Next::Missing;
     }
     closing::ended(file, to)

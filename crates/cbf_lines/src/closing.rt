@@ -1,5 +1,7 @@
 // What follows the octets of a section.
 use crate::text;
+use cbf_format::CLOSING;
+use cbf_format::CLOSING_LENGTH;
 ghost use mathlib.Core.Path.{_≡_};
 ghost use Prim.Native.Nat.{_+_, _≤_};
 ghost use lib.ListN.{length, drop};
@@ -95,11 +97,11 @@ pub fn closed(file: &[u8], at: usize, limit: usize) -> Ending
     match end {
         Next::Missing => Ending::Wrong,
         Next::At(i) => {
-            if file.len() - i < 31 {
+            if file.len() - i < CLOSING_LENGTH {
                 return Ending::Wrong;
             }
-            let to = i + 31;
-            if !text::is_word(file, i, to, b"--CIF-BINARY-FORMAT-SECTION----") {
+            let to = i + CLOSING_LENGTH;
+            if !text::is_word(file, i, to, &CLOSING) {
                 return Ending::Wrong;
             }
             let after = after_span(file, to, limit);

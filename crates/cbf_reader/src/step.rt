@@ -3,6 +3,7 @@ use crate::data;
 use crate::data::Data;
 use cbf_answers::Refusal;
 use cbf_format::Description;
+use cbf_format::OPENING;
 use cbf_format::Range;
 use cbf_format::Section;
 use cbf_headers::section_headers;
@@ -206,7 +207,7 @@ fn is_boundary(file: &[u8], field: Field, at: usize, to: usize) -> bool
         ≡ (F.isOpened f && same (slice at to (now (file .entry))) opening)) ⌝ }
 {
     match field {
-        Field::Opened(p) => text::is_word(file, at, to, b"--CIF-BINARY-FORMAT-SECTION--"),
+        Field::Opened(p) => text::is_word(file, at, to, &OPENING),
         _ => false,
     }
 }

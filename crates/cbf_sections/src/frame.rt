@@ -1,6 +1,7 @@
 // The frame of a section: its pixels, unpacked.
 use cbf_answers::Answer;
 use cbf_answers::Refusal;
+use cbf_format::CLOSING_LENGTH;
 use cbf_format::Encoding;
 use cbf_format::Numbered;
 use cbf_format::Section;
@@ -12,9 +13,6 @@ ghost use Rattle.cbf_pixels.specs.PixelCalls.{unpackOutcome, unpackOutput};
 ghost use Rattle.cbf_sections.specs.SectionCalls.{placedAt, frameOutcome, frameOutput};
 ghost use Rattle.cbf_sections.specs.FramePlaces.{FrameOf};
 ghost use Rattle.cbf_format.specs.Files as F;
-
-// The bytes of the closing boundary, with which the span of a section ends.
-const CLOSING_LENGTH: usize = 31;
 
 // 13 is at the section's first octet.
 fn placed(answer: Answer, first: usize) -> Answer
