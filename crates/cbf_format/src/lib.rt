@@ -6,12 +6,14 @@ use cbf_pixels::Compression;
 use cbf_pixels::ElementType;
 
 // "If it is `;` and blanks only, and the next line is exactly `--CIF-BINARY-FORMAT-SECTION--`, the field is a binary
-// section."
+// section": the opening boundary, with which the span of a section starts.
 pub const OPENING: [u8; 29] = *b"--CIF-BINARY-FORMAT-SECTION--";
 
 // "Then exactly the declared octets, a line end, the line `--CIF-BINARY-FORMAT-SECTION----`": the closing boundary,
 // with which the span of a section ends.
 pub const CLOSING: [u8; CLOSING_LENGTH] = *b"--CIF-BINARY-FORMAT-SECTION----";
+
+// The bytes of the closing boundary.
 pub const CLOSING_LENGTH: usize = 31;
 
 // The label of a catalogue's entry: "zero-filled to 32".

@@ -100,7 +100,8 @@ module _ (name : List ℕ) where
 
 -- a text and three lines before others, and what follows them
 four-first : (o k l m : List ℕ) (ls : List (List ℕ)) (z : List ℕ)
-    → ended o ++ (endedLines (k ∷ l ∷ m ∷ ls) ++ z) ≡ (ended o ++ (ended k ++ (ended l ++ ended m))) ++ (endedLines ls ++ z)
+    → ended o ++ (endedLines (k ∷ l ∷ m ∷ ls) ++ z)
+    ≡ o ++ (13 ∷ 10 ∷ ((ended k ++ (ended l ++ ended m)) ++ (endedLines ls ++ z)))
 unfolding endedLines
 four-first o k l m ls z = simp append-assoc
 
@@ -149,14 +150,15 @@ texts =
 -- for any texts, so that none is computed
 module _ (s : Texts) (t : List ℕ) (size elements : ℕ) (i p q r : Option ℕ) where
   abbrev start : List ℕ
-  start = ended (s .boundary) ++ (ended (s .content) ++ (ended (s .conversions) ++ ended (s .encoding)))
+  start = 13 ∷ 10 ∷ (ended (s .content) ++ (ended (s .conversions) ++ ended (s .encoding)))
 
   abbrev after-type : List ℕ
   after-type = ended (s .type-end) ++ ended (s .order)
 
   abbrev pieces : List (List ℕ)
   pieces =
-      start ∷ lineText (s .size-name) (some size) ∷ lineText (s .id-name) i ∷ s .type-start ∷ t ∷ after-type ∷
+      s .boundary
+      ∷ start ∷ lineText (s .size-name) (some size) ∷ lineText (s .id-name) i ∷ s .type-start ∷ t ∷ after-type ∷
       lineText (s .elements-name) (some elements) ∷ lineText (s .fastest-name) p ∷ lineText (s .second-name) q
       ∷ lineText (s .third-name) r
       ∷ s .end
@@ -179,7 +181,7 @@ module _ (s : Texts) (t : List ℕ) (size elements : ℕ) (i p q r : Option ℕ)
       let l1 = numberLine (s .elements-name) (some elements) l2 in
       let l0 = (s .type-start ++ (t ++ s .type-end)) ∷ s .order ∷ l1 in
       four-first (s .boundary) (s .content) (s .conversions) (s .encoding) (numberLine (s .size-name) (some size) (numberLine (s .id-name) i l0)) (s .end)
-      ∙ ap (λ (w : List ℕ). start ++ w)
+      ∙ ap (λ (w : List ℕ). s .boundary ++ (start ++ w))
       (line-first (s .size-name) (some size) (numberLine (s .id-name) i l0) (s .end)
       ∙ ap (λ (w : List ℕ). lineText (s .size-name) (some size) ++ w)
       (line-first (s .id-name) i l0 (s .end)
@@ -196,8 +198,8 @@ module _ (s : Texts) (t : List ℕ) (size elements : ℕ) (i p q r : Option ℕ)
 
   pieces-length :
       length (joined pieces)
-      ≡ length start + length (s .size-name) + length (s .type-start) + length after-type + length (s .elements-name)
-      + length (s .end) + 4 + length t + length (printed size) + length (printed elements)
+      ≡ length (s .boundary) + length start + length (s .size-name) + length (s .type-start) + length after-type
+      + length (s .elements-name) + length (s .end) + 4 + length t + length (printed size) + length (printed elements)
       + length (lineText (s .id-name) i)
       + length (lineText (s .fastest-name) p)
       + length (lineText (s .second-name) q)

@@ -27,11 +27,12 @@ use Rattle.cbf_replace.proofs.HeadLaws.{joined}
 
 -- ---- pieces
 
--- before the span, the head, the octets, the closing, and what stands behind the span, as the code takes it from the
--- file
+-- before the span, the head, the octets, a line end, the closing boundary, and what stands behind the span, as the
+-- code takes it from the file
 abbrev pub filePieces : List ℕ → Section → ℕ → List ℕ → List (List ℕ)
 filePieces file s size os =
-    take (s .from) file ∷ headText (s .description) size ∷ os ∷ (13 ∷ 10 ∷ closing) ∷ take (length file - s .to) (drop (s .to) file) ∷ []
+    take (s .from) file ∷ headText (s .description) size ∷ os ∷ (13 ∷ 10 ∷ []) ∷ closing
+    ∷ take (length file - s .to) (drop (s .to) file) ∷ []
 
 five-pieces : (a o e m os c d : List ℕ)
     → a ++ ((o ++ (e ++ (13 ∷ 10 ∷ (m ++ (os ++ (13 ∷ 10 ∷ c)))))) ++ d) ≡ a ++ ((o ++ (e ++ (13 ∷ 10 ∷ m))) ++ (os ++ ((13 ∷ 10 ∷ c) ++ (d ++ []))))

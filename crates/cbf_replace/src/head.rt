@@ -1,6 +1,7 @@
 // The head of a section in house form: its opening boundary, headers, empty line and marker. Measured and written by
 // the same pieces.
 use cbf_format::Description;
+use cbf_format::OPENING;
 use cbf_pixels::ElementType;
 ghost use mathlib.Core.Path.{_≡_};
 ghost use mathlib.Core.Option.{some};
@@ -94,10 +95,11 @@ pub fn put_head(out: &mut [u8], at: usize, d: Description, size: u64) -> usize
     ensures { λ _. ⌜ now (out .exit) ≡ sets (now (out .entry)) at (headText d size) ⌝ }
 {
     let kind = d.kind;
+    let after_opening = cbf_write::put_text(out, at, &OPENING);
     let after_encoding = cbf_write::put_text(
         out,
-        at,
-        b"--CIF-BINARY-FORMAT-SECTION--\r\nContent-Type: application/octet-stream;\r\n     conversions=\"x-CBF_BYTE_OFFSET\"\r\nContent-Transfer-Encoding: BINARY\r\n",
+        after_opening,
+        b"\r\nContent-Type: application/octet-stream;\r\n     conversions=\"x-CBF_BYTE_OFFSET\"\r\nContent-Transfer-Encoding: BINARY\r\n",
     );
     let after_size = put_line(out, after_encoding, b"X-Binary-Size: ", size);
     let after_id = put_optional(out, after_size, b"X-Binary-ID: ", d.id);

@@ -2,6 +2,8 @@
 use crate::head;
 use cbf_answers::Answer;
 use cbf_answers::FILE_LIMIT;
+use cbf_format::CLOSING;
+use cbf_format::CLOSING_LENGTH;
 use cbf_format::Section;
 ghost use mathlib.Core.Path.{_≡_};
 ghost use Prim.Native.Nat.{_≤_};
@@ -24,7 +26,8 @@ fn put_file(file: &[u8], s: Section, size: usize, frame: &[i64], out: &mut [u8])
     let boundary = cbf_write::copy(out, 0, &file[..from]);
     let first = head::put_head(out, boundary, s.description, size as u64);
     let after = cbf_pack::write_octets(frame, out, first);
-    let end = cbf_write::put_text(out, after, b"\r\n--CIF-BINARY-FORMAT-SECTION----");
+    let closing = cbf_write::put_text(out, after, b"\r\n");
+    let end = cbf_write::put_text(out, closing, &CLOSING);
     cbf_write::copy(out, end, &file[to..]);
 }
 
@@ -41,7 +44,7 @@ pub fn replace_packed(file: &[u8], s: Section, size: usize, frame: &[i64], out: 
         return cbf_answers::refused(16);
     }
     // behind the octets: a line end and the closing boundary
-    let span = head::head_length(s.description, size as u64) + size + 33;
+    let span = head::head_length(s.description, size as u64) + size + 2 + CLOSING_LENGTH;
     let length = s.from + span + (file.len() - s.to);
     if FILE_LIMIT < length {
         return cbf_answers::refused(15);

@@ -52,11 +52,17 @@ start-4 c = start-3 (c .before .before .before .before .before)
 after-4 : (c : tie.After-put-text) → Pieces (start-4 c) 4 (c .put-text .result) (c .put-text .last .0)
 after-4 c = written-more (after-3 (c .before .before .before .before .before)) (c .put-text .ensures)
 
-abbrev start-5 : tie.After-copy2 → tie.Start
+abbrev start-5 : tie.After-put-text2 → tie.Start
 start-5 c = start-4 (c .before .before .before .before .before)
 
-after-5 : (c : tie.After-copy2) → Pieces (start-5 c) 5 (c .copy2 .result) (c .copy2 .last .0)
-after-5 c = written-more (after-4 (c .before .before .before .before .before)) (c .copy2 .ensures)
+after-5 : (c : tie.After-put-text2) → Pieces (start-5 c) 5 (c .put-text2 .result) (c .put-text2 .last .0)
+after-5 c = written-more (after-4 (c .before .before .before .before .before)) (c .put-text2 .ensures)
+
+abbrev start-6 : tie.After-copy2 → tie.Start
+start-6 c = start-5 (c .before .before .before .before .before)
+
+after-6 : (c : tie.After-copy2) → Pieces (start-6 c) 6 (c .copy2 .result) (c .copy2 .last .0)
+after-6 c = written-more (after-5 (c .before .before .before .before .before)) (c .copy2 .ensures)
 
 -- what each call needs
 
@@ -77,16 +83,19 @@ write-octets-requires c κs = let m = c .before .before .before in (start-2 m .p
 put-text-requires : tie.Need-put-text-requires
 put-text-requires c κs = next-fits (after-3 (c .before .before .before .before))
 
+put-text-requires-2 : tie.Need-put-text-requires-2
+put-text-requires-2 c κs = next-fits (after-4 (c .before .before .before .before))
+
 copy-requires-2 : tie.Need-copy-requires-2
-copy-requires-2 c κs = next-fits (after-4 (c .before .before .before .before))
+copy-requires-2 c κs = next-fits (after-5 (c .before .before .before .before))
 
 returns : tie.Need-returns
-returns c = written-all (after-5 (c .before .before)) .1
+returns c = written-all (after-6 (c .before .before)) .1
 
 pub put-file-spec : {M : Type 1} → statement M
 put-file-spec =
     tie.close
     (tie.spec
     slice-aggregate-copy copy-requires put-head-requires write-octets-requires (λ c. search needs)
-    put-text-requires (λ c. search needs) (λ c. search needs) (λ c. search needs) copy-requires-2
-    (λ c. search needs) returns)
+    put-text-requires (λ c. search needs) put-text-requires-2 (λ c. search needs) (λ c. search needs)
+    (λ c. search needs) copy-requires-2 (λ c. search needs) returns)

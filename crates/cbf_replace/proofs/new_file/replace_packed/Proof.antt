@@ -14,7 +14,7 @@ use Rattle.cbf_replace.proofs.new_file.replace_packed.Tie as tie
 -- the length that was worked out is the new file's
 length-is : (m : tie.After-head-length)
     → let a = m .before .before .before .before .args in
-    a .s .from + (m .head-length .result + a .size + 33) + (length (a .file .now) - a .s .to)
+    a .s .from + (m .head-length .result + a .size + 2 + 31) + (length (a .file .now) - a .s .to)
     ≡ length (fileWith (a .file .now) (a .s) (packByteOffset (a .frame .now)))
 length-is m =
     let s = m .before .before .before .before in
@@ -72,5 +72,5 @@ replace-packed-spec =
     tie.close
     (tie.spec
     (λ c κs. search needs) returns (λ c κs. search needs) (λ c. search needs) (λ c. search needs)
-    (λ c. search needs) (λ c. search needs) (λ c. search needs) (λ c κs. search needs) returns-2
-    (λ c κs. search needs) returns-3 put-file-requires (λ c. search needs) returns-4)
+    (λ c. search needs) (λ c. search needs) (λ c. search needs) (λ c. search needs) (λ c κs. search needs)
+    returns-2 (λ c κs. search needs) returns-3 put-file-requires (λ c. search needs) returns-4)
