@@ -13,7 +13,9 @@ part-unpack-end : tie.Need-part-unpack-end
 part-unpack-end c = let b = frame-binary (c .before .before .before .before .pre .1) (c .enum-told .given .1) in omega (arith, b .high)
 
 sub-unpack-2 : tie.Need-sub-unpack-2
-sub-unpack-2 c = frame-text (c .before .before .before .before .before .pre .1) (c .before .enum-told2 .given .1) .long
+sub-unpack-2 c =
+    let t = frame-text (c .before .before .before .before .before .pre .1) (c .before .enum-told2 .given .1) in
+    omega (arith, t .long)
 
 unpack-requires-2 : tie.Need-unpack-requires-2
 unpack-requires-2 c κs = frame-text (c .before .before .before .before .before .before .pre .1) (c .before .before .enum-told2 .given .1) .fits
