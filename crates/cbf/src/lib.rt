@@ -2,6 +2,7 @@
 // and packing and unpacking alone. No call has a `requires`; the types that their contracts name are handed on with
 // them.
 pub use cbf_answers::Answer;
+pub use cbf_answers::LINE_LIMIT;
 pub use cbf_answers::Refusal;
 pub use cbf_catalogue::catalogue;
 pub use cbf_format::Description;

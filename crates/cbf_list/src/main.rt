@@ -1,7 +1,7 @@
 // Reads a file from standard input and prints its listing, or the line of its refusal.
-use cbf_answers::Answer;
-use cbf_answers::LINE_LIMIT;
-use cbf_answers::Refusal;
+use cbf::Answer;
+use cbf::LINE_LIMIT;
+use cbf::Refusal;
 use libc::STDIN_FILENO;
 use libc::STDOUT_FILENO;
 ghost use mathlib.Core.Path.{_≡_};

@@ -31,8 +31,8 @@ use Rattle.cbf_format.proofs.VerdictLaws.{size-agrees}
 use Rattle.cbf_format.proofs.PlaceLaws.{read-place}
 use Rattle.cbf_format.proofs.OctetLaws.{DataAt, data-at, binary-octets}
 use Rattle.cbf_format.proofs.ReplacementLaws.{SpanAt, span-at}
-use Rattle.cbf_text.specs.Letters.{addSix, sixes, joined}
-use Rattle.cbf_text.proofs.SectionTexts.{text-of}
+use Rattle.cbf_letters.specs.Letters.{addSix, sixes, joined}
+use Rattle.cbf_letters.proofs.SectionTexts.{text-of}
 use Rattle.cbf_sections.specs.SectionCalls.{orMissing, sectionNumbered, sectionOutcome, frameOf, frameFor}
 use Rattle.cbf_sections.specs.SectionCalls.{frameOutcome}
 use Rattle.cbf_format.specs.Sections as S

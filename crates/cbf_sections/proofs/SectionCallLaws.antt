@@ -28,7 +28,7 @@ use Rattle.cbf_reader.specs.Walk.{SectionOf}
 use Rattle.cbf_format.specs.declared.Section.{Section}
 use Rattle.cbf_reader.specs.declared.whole_file.Count.{Count}
 use Rattle.cbf_format.specs.declared.Numbered.{Numbered}
-use Rattle.cbf_text.specs.Texts.{GoodText, textOctets, TextOf}
+use Rattle.cbf_letters.specs.Octets.{GoodText, textOctets, TextOf}
 use Rattle.cbf_sections.specs.SectionCalls.{readOutcome, Result, refusal, value, orMissing, sectionNumbered}
 use Rattle.cbf_sections.specs.SectionCalls.{ofSection, sectionOutcome, numberedFields, fieldsOf, sectionFields}
 use Rattle.cbf_sections.specs.SectionCalls.{placedAt, frameOf, frameFor, frameOutcome, framePixels}
@@ -36,7 +36,7 @@ use Rattle.cbf_sections.specs.SectionCalls.{OctetsAnswer, octetsFor, oct
 use Rattle.cbf_sections.specs.SectionCalls.{octetsOutcome, octetsPart}
 use Rattle.cbf_sections.specs.FramePlaces.{FrameOf}
 use Rattle.cbf_format.proofs.Slices.{slice-part}
-use Rattle.cbf_text.proofs.SectionTexts.{text-of}
+use Rattle.cbf_letters.proofs.SectionTexts.{text-of}
 use Rattle.cbf_format.specs.Sections as S
 use Rattle.cbf_format.specs.Files as F
 use Rattle.cbf_reader.specs.declared.whole_file.Count.the-variants as C

@@ -12,7 +12,7 @@ use Rattle.cbf_format.specs.declared.Encoding.the-variants.{Binary, Base64}
 use Rattle.cbf_format.specs.Listing.{Placed, position}
 use Rattle.cbf_reader.specs.Walk.{SectionOf}
 use Rattle.cbf_format.specs.declared.Section.{Section}
-use Rattle.cbf_text.specs.Texts.{TextOf}
+use Rattle.cbf_letters.specs.Octets.{TextOf}
 
 -- BINARY: the octets are a part of the file
 pub record InFile (file : List ℕ) (p : Placed) : Type 0 where

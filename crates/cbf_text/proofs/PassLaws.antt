@@ -26,7 +26,8 @@ use Rattle.cbf_answers.proofs.Stores.{sets-append}
 use Rattle.cbf_octets.proofs.RestLaws.{some-onto, rest-end}
 use Rattle.cbf_validate.proofs.ValidateLaws.{zero-within}
 use Rattle.cbf_unpack.proofs.FillLaws.{onto-onto, onto-nil, rest-empty}
-use Rattle.cbf_text.specs.Texts.{textOctets, content, Holds}
+use Rattle.cbf_letters.specs.Octets.{textOctets}
+use Rattle.cbf_text.specs.TextWindow.{content, Holds}
 use Rattle.cbf_text.specs.TextParts.{PartSays, passOutput}
 use Rattle.cbf_text.specs.declared.text_window.Window.{Window}
 

@@ -21,7 +21,8 @@ use Rattle.cbf_unpack.proofs.UncompressedLaws.{pixelsIn, pixels-append, read-al
 use Rattle.cbf_unpack.proofs.UncompressedLaws.{next-fits}
 use Rattle.cbf_unpack.proofs.UnpackingLaws.{uncompressed-output}
 use Rattle.cbf_format.proofs.Slices.{slice-take}
-use Rattle.cbf_text.specs.Texts.{Decodes, Holds, content, textOctets}
+use Rattle.cbf_letters.specs.Octets.{Decodes, textOctets}
+use Rattle.cbf_text.specs.TextWindow.{Holds, content}
 use Rattle.cbf_text.specs.declared.text_window.Window.{Window}
 
 -- ---- moving octets to the front

@@ -11,7 +11,7 @@ ghost use lib.ListN.{length, take};
 ghost use Rattle.cbf_pixels.specs.Pixels.{within, least, greatest, unpackByteOffset};
 ghost use Rattle.cbf_pixels.specs.PixelCalls.{isSome};
 ghost use Rattle.cbf_unpack.specs.Fill.{Fillable};
-ghost use Rattle.cbf_text.specs.Texts.{GoodText, textOctets};
+ghost use Rattle.cbf_letters.specs.Octets.{GoodText, textOctets};
 ghost use Rattle.cbf_text.specs.TextParts.{PartSays, passOutput};
 
 // The pixels of the octets that are there, validated, or written to out from k on.

@@ -1,8 +1,6 @@
 // Octets from a section's text, and pixels from them. The octets come through a window of fixed size, which is filled
 // again and again, so that no memory is asked of the caller.
 mod byte_offset_text;
-mod letters;
-mod octets;
 mod text_window;
 mod uncompressed_text;
 mod unpack_text;

@@ -1,11 +1,12 @@
 // A window of octets, filled again and again from a text.
-use crate::octets;
+use cbf_letters::octets;
 ghost use mathlib.Core.Path.{_≡_};
 ghost use mathlib.Core.Logic.{_⊎_};
 ghost use Prim.Native.Nat.{_+_, _-_, _<_, _≤_};
 ghost use lib.ListN.{length, take};
 ghost use lib.Seq.{slice};
-ghost use Rattle.cbf_text.specs.Texts.{GoodText, Holds, content};
+ghost use Rattle.cbf_letters.specs.Octets.{GoodText};
+ghost use Rattle.cbf_text.specs.TextWindow.{Holds, content};
 
 // What a window holds: the octets from next up to have are decoded and not used; behind them `left` octets are to
 // come, from at on in the text.

@@ -1,7 +1,7 @@
 // Uncompressed pixels from a text, whose octets come through a window.
-use crate::octets;
 use crate::text_window;
 use crate::text_window::Window;
+use cbf_letters::octets;
 use cbf_pixels::Compression;
 use cbf_pixels::ElementType;
 ghost use mathlib.Core.Path.{_≡_};
@@ -11,7 +11,7 @@ ghost use lib.ListN.{length, take, drop};
 ghost use Rattle.cbf_answers.specs.Limits.{pixelLimit};
 ghost use Rattle.cbf_pixels.specs.Uncompressed.{octetsPer, unpackUncompressed};
 ghost use Rattle.cbf_pixels.specs.PixelCalls.{pixelsOf};
-ghost use Rattle.cbf_text.specs.Texts.{GoodText, textOctets};
+ghost use Rattle.cbf_letters.specs.Octets.{GoodText, textOctets};
 
 // Writes count uncompressed pixels from the text, whose octets are as many as the pixels take.
 pub fn unpack_uncompressed(

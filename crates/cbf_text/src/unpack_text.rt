@@ -12,7 +12,7 @@ ghost use Rattle.cbf_pixels.specs.Uncompressed.{octetsPer};
 ghost use Rattle.cbf_answers.specs.Answers.{outcome};
 ghost use Rattle.cbf_pixels.specs.PixelCalls.{unpackOutcome, unpackOutput};
 ghost use Rattle.cbf_pixels.specs.declared.Compression.the-variants.{Uncompressed};
-ghost use Rattle.cbf_text.specs.Texts.{GoodText, textOctets};
+ghost use Rattle.cbf_letters.specs.Octets.{GoodText, textOctets};
 
 // Unpacks count pixels from the text, which stands for size octets; as cbf_pixels::unpack does from octets. Octets
 // that do not unpack are known before the first pixel is written; an uncompressed section has none.

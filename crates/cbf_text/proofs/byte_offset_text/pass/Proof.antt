@@ -8,7 +8,7 @@ use mir.Syntax.{w64}
 use mir.Val.{toZ}
 use borrow.Author.Tests.{not-true, not-false}
 use Rattle.cbf_pixels.specs.Pixels.{unpackByteOffset}
-use Rattle.cbf_text.specs.Texts.{textOctets}
+use Rattle.cbf_letters.specs.Octets.{textOctets}
 use Rattle.cbf_text.proofs.PassLaws.{Passing, starts, refilled, there, fillable, done-length, ends, ends-not}
 use Rattle.cbf_text.proofs.PassLaws.{output, turn-length, turn-few, turn-fails, turn-moves, turned}
 use Rattle.cbf_text.proofs.byte_offset_text.pass.Statement.{statement}

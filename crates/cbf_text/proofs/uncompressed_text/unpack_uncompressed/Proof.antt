@@ -5,7 +5,7 @@ use native.Mathlib.Omega.{arith}
 use mathlib.Core.Path.{refl, sym, ap, _∙_}
 use lib.ListN.{take}
 use lib.Seq.{length-take-le}
-use Rattle.cbf_text.specs.Texts.{textOctets}
+use Rattle.cbf_letters.specs.Octets.{textOctets}
 use Rattle.cbf_pixels.proofs.UncompressedPixels.{has-octets}
 use Rattle.cbf_unpack.proofs.UncompressedLaws.{loaded}
 use Rattle.cbf_text.proofs.WindowLaws.{all-octets, whole-pixels, Loaded, loaded-none, some-octets, loaded-more}

@@ -1,0 +1,4 @@
+pub mod LetterLaws
+pub mod OctetsLaws
+pub mod TextLetters
+pub mod SectionTexts

@@ -1,0 +1,3 @@
+// Octets from BASE64 text that was read: letters as numbers, and four of these as three octets.
+mod letters;
+pub mod octets;
