@@ -43,11 +43,14 @@ placesOf (refused k p) = []
 placesOf (good its) = places (sections 0 its)
 
 pub sample-places : placesOf (read 80 sample) ≡ (50, 395, 359) ∷ []
-unfolding sample read readF step due textLine lineEnd exactly literal semicolonLine headerLine headerLines judge verdict headers lastBoundary afterSpan closed binaryData section identified decimalNumber sections
+unfolding sample read readF step due textLine lineEnd exactly literal semicolonLine headerLine headerLines judge
+    verdict headers lastBoundary afterSpan closed binaryData section identified decimalNumber sections
 sample-places = refl
 
 pub sample-listed : listing (read 80 sample) ≡ bytes "1 359 4 2 byte_offset s32 a\n"
-unfolding sample read readF step due textLine lineEnd exactly literal semicolonLine headerLine headerLines judge verdict headers lastBoundary afterSpan closed binaryData section identified decimalNumber listing sections sectionLines sectionText digitsOf
+unfolding sample read readF step due textLine lineEnd exactly literal semicolonLine headerLine headerLines judge
+    verdict headers lastBoundary afterSpan closed binaryData section identified decimalNumber listing sections
+    sectionLines sectionText digitsOf
 sample-listed = refl
 
 -- "46 52 43 00 01 00 01 00, 67 01 00 00, 04 00 00 00, 02 00 00 00, 01 06 00 00, 01 00 00 00, twelve 00, 61,
@@ -59,11 +62,14 @@ catalogueOf (good its) = catalogue (sections 0 its)
 pub sample-catalogued : catalogueOf (read 80 sample)
     ≡ 0x46 ∷ 0x52 ∷ 0x43 ∷ 0 ∷ 1 ∷ 0 ∷ 1 ∷ 0 ∷ 0x67 ∷ 1 ∷ 0 ∷ 0 ∷ 4 ∷ 0 ∷ 0 ∷ 0 ∷ 2 ∷ 0 ∷ 0 ∷ 0 ∷ 1 ∷ 6 ∷ 0 ∷ 0 ∷ 1 ∷
     0 ∷ 0 ∷ 0 ∷ (zeros 12 ++ (0x61 ∷ zeros 31))
-unfolding sample read readF step due textLine lineEnd exactly literal semicolonLine headerLine headerLines judge verdict headers lastBoundary afterSpan closed binaryData section identified decimalNumber sections catalogue entries entry zeros O.octets
+unfolding sample read readF step due textLine lineEnd exactly literal semicolonLine headerLine headerLines judge
+    verdict headers lastBoundary afterSpan closed binaryData section identified decimalNumber sections catalogue
+    entries entry zeros O.octets
 sample-catalogued = refl
 
 pub sample-cut : read 80 (take 370 sample) ≡ refused 9 363
-unfolding sample read readF step due textLine lineEnd exactly literal semicolonLine headerLine headerLines judge verdict headers lastBoundary afterSpan closed binaryData section identified decimalNumber
+unfolding sample read readF step due textLine lineEnd exactly literal semicolonLine headerLine headerLines judge
+    verdict headers lastBoundary afterSpan closed binaryData section identified decimalNumber
 sample-cut = refl
 
 -- ---- each refusal once. A file with one section: its headers, and what follows the empty line
@@ -112,17 +118,20 @@ unfolding read readF step due textLine headerLine headerLines judge verdict head
 disagree = refl
 
 pub no-marker : read 80 (sectioned "Content-Transfer-Encoding: BINARY\nX-Binary-Size: 4\nX-Binary-Number-of-Elements: 1\n" "\u{c}\u{1a}\u{4}") ≡ refused 8 135
-unfolding read readF step due textLine headerLine headerLines judge verdict headers section identified decimalNumber binaryData literal exactly
+unfolding read readF step due textLine headerLine headerLines judge verdict headers section identified decimalNumber
+    binaryData literal exactly
 no-marker = refl
 
 pub no-letter : read 80 (sectioned "Content-Transfer-Encoding: BASE64\nX-Binary-Size: 4\nX-Binary-Number-of-Elements: 1\n" "AA-A\n") ≡ refused 10 137
-unfolding read readF step due textLine headerLine headerLines judge verdict headers section identified decimalNumber base64Data letters symbol
+unfolding read readF step due textLine headerLine headerLines judge verdict headers section identified decimalNumber
+    base64Data letters symbol
 no-letter = refl
 
 pub unused-bits : read 80 (sectioned
     "Content-Transfer-Encoding: BASE64\nX-Binary-Size: 4\nX-Binary-Number-of-Elements: 1\n"
     "AAAAAB==\n--CIF-BINARY-FORMAT-SECTION----\n;\n") ≡ refused 10 144
-unfolding read readF step due textLine headerLine headerLines judge verdict headers section identified decimalNumber base64Data letters symbol decode
+unfolding read readF step due textLine headerLine headerLines judge verdict headers section identified decimalNumber
+    base64Data letters symbol decode
 unused-bits = refl
 
 pub open-field : read 80 (bytes "###CBF: VERSION 1.0\n;\n") ≡ refused 11 20

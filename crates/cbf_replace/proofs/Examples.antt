@@ -21,9 +21,16 @@ use Rattle.cbf_replace.specs.ReplaceCalls.{replaceOutcome, replacedBy}
 use Rattle.cbf_pixels.specs.Octets as O
 
 pub sample-replaced : replacedBy sample (read 80 sample) 1 (pos 5 ∷ pos 205 ∷ []) ≡ sample
-unfolding sample read readF step due textLine lineEnd exactly literal semicolonLine headerLine headerLines judge verdict headers lastBoundary afterSpan closed binaryData section identified decimalNumber sections numbered house endedLines houseLines digitsOf replacedFile exchange replacedBy packByteOffset packFrom packDifference packBy widths O.half O.bits O.octets
+unfolding sample read readF step due textLine lineEnd exactly literal semicolonLine headerLine headerLines judge
+    verdict headers lastBoundary afterSpan closed binaryData section identified decimalNumber sections numbered
+    house endedLines houseLines digitsOf replacedFile exchange replacedBy packByteOffset packFrom packDifference
+    packBy widths O.half O.bits O.octets
 sample-replaced = refl
 
 pub sample-answer : replaceOutcome sample (read 80 sample) 1 (pos 5 ∷ pos 205 ∷ []) 401 ≡ gives 401
-unfolding sample read readF step due textLine lineEnd exactly literal semicolonLine headerLine headerLines judge verdict headers lastBoundary afterSpan closed binaryData section identified decimalNumber sections numbered house endedLines houseLines digitsOf replacedFile exchange replaceOutcome replaceFitting replacePacked roomForFile roomFor frameFits within allWithin packByteOffset packFrom packDifference packBy widths O.half O.bits O.octets
+unfolding sample read readF step due textLine lineEnd exactly literal semicolonLine headerLine headerLines judge
+    verdict headers lastBoundary afterSpan closed binaryData section identified decimalNumber sections numbered
+    house endedLines houseLines digitsOf replacedFile exchange replaceOutcome replaceFitting replacePacked
+    roomForFile roomFor frameFits within allWithin packByteOffset packFrom packDifference packBy widths O.half
+    O.bits O.octets
 sample-answer = refl
