@@ -9,9 +9,10 @@ lineLimit = 80
 abbrev pub fileLimit : ℕ
 fileLimit = 1_073_741_824
 
--- "Pixels in a section: at most 67,108,864"; "File and result file: at most 1,073,741,824 bytes"
+-- "Pixels in a section: at most 67,108,864"
 abbrev pub pixelLimit : ℕ
-pixelLimit = 67108864
+pixelLimit = 67_108_864
 
+-- 16: of the octets that pixels are packed to, the same as of a file's bytes
 abbrev pub octetLimit : ℕ
-octetLimit = 1073741824
+octetLimit = fileLimit

@@ -5,7 +5,7 @@ ghost use Rattle.cbf_answers.specs.Answers.{refuses, outcome};
 // "File and result file: at most 1,073,741,824 bytes."
 pub const FILE_LIMIT: usize = 1073741824;
 
-// "Elements of a section: at most 67,108,864."
+// "Pixels in a section: at most 67,108,864."
 pub const PIXEL_LIMIT: usize = 67108864;
 
 // "Text line: at most 80 characters, line end not counted." The calls for users take this limit; what reads takes it

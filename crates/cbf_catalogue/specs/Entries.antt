@@ -18,7 +18,7 @@ use Rattle.cbf_catalogue.specs.declared.entries.Counted.the-variants as 
 
 -- the place that stands for no section: no file has it
 abbrev pub noPlace : ℕ
-noPlace = (fileLimit + 1)
+noPlace = fileLimit + 1
 
 -- the place of the first section with a long name, with one section more: its name's length and its boundary line
 abbrev pub withName : ℕ → ℕ → ℕ → ℕ

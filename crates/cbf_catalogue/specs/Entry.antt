@@ -6,8 +6,6 @@ use Rattle.cbf_pixels.specs.Octets.{octets}
 use Rattle.cbf_format.specs.Catalogue.{entry}
 use Rattle.cbf_format.specs.declared.Section.{Section}
 
--- ---- the catalogue
-
 -- the entry of a section of the code
 abbrev pub entryFor : List ℕ → Section → List ℕ
 entryFor file s =

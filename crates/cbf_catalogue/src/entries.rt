@@ -25,7 +25,7 @@ pub enum Counted {
 }
 
 // The place that stands for none: no file has it.
-const NO_PLACE: usize = (FILE_LIMIT + 1);
+const NO_PLACE: usize = FILE_LIMIT + 1;
 
 // The place of the first section with a long name, with one section more, whose boundary line is at from.
 fn with_name(found: usize, block: Range, from: usize) -> usize

@@ -40,8 +40,7 @@ optional zero = none
 optional (suc n) = some (suc n)
 
 -- ---- "6 over the headers in file order": the known headers with their values, or the place of the header that is
--- repeated
--- or has a bad value
+-- repeated or has a bad value
 
 pub data Judged : Type 0 where
   refused-at : ℕ → Judged

@@ -5,8 +5,6 @@ use lib.Seq.{slice}
 use Rattle.cbf_format.specs.Listing.{printed, spaced, sectionText}
 use Rattle.cbf_format.specs.declared.Section.{Section}
 
--- ---- the lines of the sections
-
 -- the line of a section of the code
 abbrev pub lineFor : List ℕ → ℕ → Section → List ℕ
 lineFor file number s =

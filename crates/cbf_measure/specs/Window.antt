@@ -6,8 +6,6 @@ use lib.ListN.{length, getD}
 use lib.IntN.{ℤ, pos}
 use lib.Signed.{shrZ}
 
--- ---- Packing
-
 -- two numbers of the same 128, from a multiple of 128 on: their difference takes one octet, and no type's range ends
 -- between them
 unfoldable pub SameWindow : ℤ → ℤ → Type 0

@@ -8,8 +8,6 @@ use lib.ListN.{length, drop}
 use lib.IntN.{ℤ, pos, negsuc}
 use Rattle.cbf_pixels.specs.Pixels.{run-out, got, readBy, widths}
 
--- ---- one difference
-
 -- half of the numbers of a width, which is a power of two: n is a number of that width
 pub record Halved (half n : ℕ) : Type 0 where
   pub exponent : ℕ

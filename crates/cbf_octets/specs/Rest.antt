@@ -24,8 +24,7 @@ onto xs none = none
 onto xs (some ps) = some (xs ++ ps)
 
 -- ---- Parts. Octets that come through a window are unpacked part by part: each pass goes over the octets that are
--- there, and
--- stops where fewer than 480 are left (32 pixels of at most 15), unless the octets have ended.
+-- there, and stops where fewer than 480 are left (32 pixels of at most 15), unless the octets have ended.
 
 -- what may be behind the octets that are there
 abbrev pub Behind : Bool → List ℕ → Type 0

@@ -2,7 +2,6 @@
 use crate::data;
 use crate::data::Data;
 use cbf_answers::Refusal;
-use cbf_format::Description;
 use cbf_format::OPENING;
 use cbf_format::Range;
 use cbf_format::Section;

@@ -11,8 +11,6 @@ use Rattle.cbf_pixels.specs.declared.ElementType.{ElementType}
 use Rattle.cbf_pixels.specs.declared.ElementType.the-variants.{U8, S8, U16, S16, U32, S32}
 use Rattle.cbf_octets.specs.Rest.{rest, Enough}
 
--- ---- The first pass. It holds a pixel "biased": as its distance above the type's least one, plus 2^40.
-
 abbrev pub biasedLeast : ℕ
 biasedLeast = 1099511627776
 

@@ -14,10 +14,6 @@ use Rattle.cbf_pixels.specs.declared.ElementType.{ElementType}
 use Rattle.cbf_octets.specs.declared.Part.{Part}
 use Rattle.cbf_octets.specs.Rest.{rest, Enough, onto, Behind, Stopped}
 
--- ---- The second pass. It tests nothing: its callers know that what is left unpacks, and that z, the last pixel, is
--- in the
--- range of some type, so that sums do not wrap.
-
 -- n pixels unpack, with octets behind those that are there. Of those that are there, size stand from i on, unless
 -- nothing is behind them.
 pub record Unpacks (os : List ℕ) (z : ℤ) (i n size : ℕ) : Type 0 where

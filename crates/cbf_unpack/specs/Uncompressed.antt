@@ -4,8 +4,6 @@ use mathlib.Core.Path.{_≡_}
 use Rattle.cbf_pixels.specs.Uncompressed.{octetsPer}
 use Rattle.cbf_pixels.specs.declared.ElementType.{ElementType}
 
--- ---- Uncompressed pixels
-
 -- the octets of an element of some type
 pub record Width (width : ℕ) : Type 0 where
   pub type : ElementType

@@ -5,8 +5,6 @@ use mathlib.Core.Bool.{Bool, true, false}
 use lib.ListN.{take, drop}
 use lib.Seq.{slice}
 
--- ---- files with bytes exchanged
-
 -- the file with k bytes at `at` exchanged for `new`
 unfoldable pub exchange : List ℕ → ℕ → ℕ → List ℕ → List ℕ
 exchange file at k new = take at file ++ (new ++ drop (at + k) file)
