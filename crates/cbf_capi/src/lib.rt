@@ -144,7 +144,8 @@ pub extern "C" fn cbf_octets(file: &[u8], section: usize, start: &mut u64) -> u6
 pub extern "C" fn cbf_unpack(file: &[u8], section: usize, pixels: &mut [i64]) -> u64
     ensures answer { λ r. ⌜ r ≡ word (frameOutcome (read lineLimit (now (file .entry))) section
         (length (now (pixels .entry)))) ⌝ }
-    ensures output { λ _. ⌜ now (pixels .exit) ≡ frameOutput (read lineLimit (now (file .entry))) section (now (pixels .entry)) ⌝ }
+    ensures output { λ _. ⌜ now (pixels .exit) ≡ frameOutput (read lineLimit (now (file .entry))) section
+        (now (pixels .entry)) ⌝ }
 {
     word_of(cbf::unpack(file, LINE_LIMIT, section, pixels))
 }
@@ -163,7 +164,8 @@ pub extern "C" fn cbf_listing(file: &[u8], out: &mut [u8]) -> u64
 pub extern "C" fn cbf_catalogue(file: &[u8], out: &mut [u8]) -> u64
     ensures answer { λ r. ⌜ r ≡ word (catalogueOutcome (read lineLimit (now (file .entry)))
         (length (now (out .entry)))) ⌝ }
-    ensures output { λ _. ⌜ now (out .exit) ≡ catalogueOutput (read lineLimit (now (file .entry))) (now (out .entry)) ⌝ }
+    ensures output { λ _. ⌜ now (out .exit) ≡ catalogueOutput (read lineLimit (now (file .entry)))
+        (now (out .entry)) ⌝ }
 {
     word_of(cbf::catalogue(file, LINE_LIMIT, out))
 }

@@ -3,7 +3,7 @@
 use mathlib.Core.List.{List, [], _∷_, _++_}
 use Prim.Native.Nat.{ℕ, zero, suc, _+_, _*_, _-_, _/_, _%_, _≤_}
 use Rattle.cbf_format.specs.declared.Symbol.{Symbol}
-use Rattle.cbf_letters.specs.Letters.{addSix, sixes, groupOctets, joined}
+use Rattle.cbf_letters.specs.Letters.{addSix, sixes, groupOctets, sixesOctets}
 use mathlib.Core.Path.{_≡_, refl, sym, ap, _∙_, subst}
 use mathlib.Core.Option.{Option, none, some, Option·some-ne-none}
 use mathlib.Core.Bool.{Bool, true, false, _&&_, cond}
@@ -60,19 +60,19 @@ fours (suc k) (a ∷ b ∷ []) e = absurd (omega arith)
 fours (suc k) (a ∷ b ∷ c ∷ []) e = absurd (omega arith)
 fours (suc k) (a ∷ b ∷ c ∷ d ∷ l) e = group (fours k l (omega arith))
 
-pub joined-append : (k : ℕ) (l m : List ℕ) → length l ≡ 4 * k → joined (l ++ m) ≡ joined l ++ joined m
-unfolding joined
+pub joined-append : (k : ℕ) (l m : List ℕ) → length l ≡ 4 * k → sixesOctets (l ++ m) ≡ sixesOctets l ++ sixesOctets m
+unfolding sixesOctets
 joined-append k l m e = go (fours k l e)
   where
-    go : {k : ℕ} {l : List ℕ} → Fours k l → joined (l ++ m) ≡ joined l ++ joined m
+    go : {k : ℕ} {l : List ℕ} → Fours k l → sixesOctets (l ++ m) ≡ sixesOctets l ++ sixesOctets m
     go no-group = refl
     go (group {a} {b} {c} {d} g) = ap (λ (os : List ℕ). groupOctets a b c d ++ os) (go g)
 
-pub joined-length : (k : ℕ) (l : List ℕ) → length l ≡ 4 * k → length (joined l) ≡ 3 * k
-unfolding joined
+pub joined-length : (k : ℕ) (l : List ℕ) → length l ≡ 4 * k → length (sixesOctets l) ≡ 3 * k
+unfolding sixesOctets
 joined-length k l e = go (fours k l e)
   where
-    go : {k : ℕ} {l : List ℕ} → Fours k l → length (joined l) ≡ 3 * k
+    go : {k : ℕ} {l : List ℕ} → Fours k l → length (sixesOctets l) ≡ 3 * k
     go no-group = refl
     go (group g) = omega (arith, go g)
 
@@ -91,7 +91,7 @@ add-six Other l = refl
 
 -- octets that are the first that these numbers give
 abbrev Joins : List ℕ → List ℕ → Type 0
-Joins l os = os ≡ take (length os) (joined l)
+Joins l os = os ≡ take (length os) (sixesOctets l)
 
 last-says : (b : Bool) (xs os : List ℕ) → lastGroup b xs ≡ some os → (b ≡ true) × (xs ≡ os)
 last-says true xs os e = (refl, cc)
@@ -100,7 +100,7 @@ last-says false xs os e = absurd (Option·some-ne-none os (sym e))
 module _ (p q last : Bool) (m os : List ℕ) (ends : last ≡ true → m ≡ []) where
   group-joins : (a b c d : Option ℕ) (r : Option (List ℕ)) → ((xs : List ℕ) → r ≡ some xs → Joins m xs) → fromGroup a b c d p q last r ≡ some os
       → Joins (addNumber a (addNumber b (addNumber c (addNumber d m)))) os
-  unfolding joined
+  unfolding sixesOctets
   group-joins (some a) (some b) (some c) (some d) (some xs) more e =
       let z : groupOctets a b c d ++ xs ≡ os = cc in
       subst (Joins (a ∷ b ∷ c ∷ d ∷ m)) z (ap (λ (ys : List ℕ). groupOctets a b c d ++ ys) (more xs refl))
@@ -123,7 +123,7 @@ empty-sixes [] e = refl
 empty-sixes (s ∷ l) e = let z : _≡_ {A = ℕ} 0 1 = cc in absurd (omega arith)
 
 -- octets that symbols decode to are the first that their numbers give
-pub decode-joined : (l : List Symbol) (os : List ℕ) → decode l ≡ some os → os ≡ take (length os) (joined (sixesOf l))
+pub decode-joined : (l : List Symbol) (os : List ℕ) → decode l ≡ some os → os ≡ take (length os) (sixesOctets (sixesOf l))
 unfolding decode sixesOf
 decode-joined [] os e = let z : [] ≡ os = cc in rw (← z)
 decode-joined (a ∷ []) os e = absurd (Option·some-ne-none os (sym e))
@@ -255,7 +255,8 @@ base64-letters limit size s d n e = go (unbind (text limit size) (afterText limi
 
 -- its octets are from the bytes before the closing boundary, whose 31 bytes end the width
 pub base64-octets : (limit size : ℕ) (s : List ℕ) (d : Data) (n : ℕ) → base64Data limit size s ≡ ok d n
-    → (d .lead ≡ 0) × (31 ≤ d .width) × (d .width ≤ length s) × (length (d .octets) ≡ size) × (d .octets ≡ take size (joined (sixes (take (d .width - 31) s))))
+    → (d .lead ≡ 0) × (31 ≤ d .width) × (d .width ≤ length s) × (length (d .octets) ≡ size)
+    × (d .octets ≡ take size (sixesOctets (sixes (take (d .width - 31) s))))
 base64-octets limit size s d n e =
     let b = base64-letters limit size s d n e in
     let w : b .0 .closing + 31 ≡ d .width = ap (λ (d : Data). d .width) (b .4) in
@@ -267,7 +268,7 @@ base64-octets limit size s d n e =
     Says : Data → Type 0
     Says d =
         (d .lead ≡ 0) × (31 ≤ d .width) × (d .width ≤ length s) × (length (d .octets) ≡ size)
-        × (d .octets ≡ take size (joined (sixes (take (d .width - 31) s))))
+        × (d .octets ≡ take size (sixesOctets (sixes (take (d .width - 31) s))))
 
     says : (l : Letters) → sixesOf (l .symbols) ≡ sixes (take (l .closing - 0) s) → l .closing + 31 ≤ length s
         → (os : List ℕ) × (decode (l .symbols) ≡ some os) × (length os ≡ size) → Says (base64Of l)

@@ -18,7 +18,7 @@ use Rattle.cbf_lines.specs.Text.{isLetter, Run}
 use Rattle.cbf_lines.proofs.TextLaws.{run-then, getD-slice}
 use Rattle.cbf_lines.proofs.ClosingLaws.{slice-then}
 use Rattle.cbf_format.proofs.Base64Laws.{symbol-letter}
-use Rattle.cbf_letters.specs.Letters.{addSix, sixes, groupOctets, joined}
+use Rattle.cbf_letters.specs.Letters.{addSix, sixes, groupOctets, sixesOctets}
 use Rattle.cbf_letters.specs.Octets.{LettersOnly, SixesOnly, NextSays, textOctets, Decodes}
 use Rattle.cbf_letters.proofs.LetterLaws.{sixes-append, joined-append, joined-length}
 
@@ -34,10 +34,10 @@ four-at l i h =
     from j k = drop-cons l j 0 k
 
 -- a turn of the loop that writes groups
-pub join-turn : (l old : List ℕ) (at j : ℕ) {out new : List ℕ} → 4 * j + 4 ≤ length l → out ≡ sets old at (joined (take (4 * j) l))
+pub join-turn : (l old : List ℕ) (at j : ℕ) {out new : List ℕ} → 4 * j + 4 ≤ length l → out ≡ sets old at (sixesOctets (take (4 * j) l))
     → new ≡ sets out (at + 3 * j) (groupOctets (getD l (4 * j) 0) (getD l (4 * j + 1) 0) (getD l (4 * j + 2) 0) (getD l (4 * j + 3) 0))
-    → new ≡ sets old at (joined (take (4 * (j + 1)) l))
-unfolding joined
+    → new ≡ sets old at (sixesOctets (take (4 * (j + 1)) l))
+unfolding sixesOctets
 join-turn l old at j h e q =
     let g : List ℕ = getD l (4 * j) 0 ∷ getD l (4 * j + 1) 0 ∷ getD l (4 * j + 2) 0 ∷ getD l (4 * j + 3) 0 ∷ [] in
     let n : length (take (4 * j) l) ≡ 4 * j = length-take-le (4 * j) l (omega arith) in
@@ -45,13 +45,13 @@ join-turn l old at j h e q =
     let f : take (4 * j) l ++ g ≡ take (4 * j + 4) l = rw (← (four-at l (4 * j) h)) (sym (take-add (4 * j) 4 l)) in
     let t : take (4 * j + 4) l ≡ take (4 * (j + 1)) l = rw m in
     q
-    ∙ rw e (sets-then old at (3 * j) (joined (take (4 * j) l)) (joined g) (joined-length j (take (4 * j) l) n))
-    ∙ ap (sets old at) (sym (joined-append j (take (4 * j) l) g n) ∙ ap joined (f ∙ t))
+    ∙ rw e (sets-then old at (3 * j) (sixesOctets (take (4 * j) l)) (sixesOctets g) (joined-length j (take (4 * j) l) n))
+    ∙ ap (sets old at) (sym (joined-append j (take (4 * j) l) g n) ∙ ap sixesOctets (f ∙ t))
 
 -- the first group; where letters lack, zeros stand for them
 joined-group : (x : ℕ) (l : List ℕ)
-    → joined (x ∷ l) ≡ groupOctets x (getD l 0 0) (getD (drop 1 l) 0 0) (getD (drop 1 (drop 1 l)) 0 0) ++ joined (drop 1 (drop 1 (drop 1 l)))
-unfolding joined
+    → sixesOctets (x ∷ l) ≡ groupOctets x (getD l 0 0) (getD (drop 1 l) 0 0) (getD (drop 1 (drop 1 l)) 0 0) ++ sixesOctets (drop 1 (drop 1 (drop 1 l)))
+unfolding sixesOctets
 joined-group x [] = refl
 joined-group x (a ∷ []) = refl
 joined-group x (a ∷ b ∷ []) = refl
@@ -98,7 +98,7 @@ module _ {file : List ℕ} {to : ℕ} where
   -- nothing is decoded over bytes that are no letters
   pub decodes-none : {at : ℕ} {out : List ℕ} {from at′ : ℕ} → at ≤ at′ → at′ ≤ to → from ≤ length out → sixes (slice at to file) ≡ sixes (slice at′ to file)
       → Decodes file at to out from out at′ from
-  decodes-none h k r e = record { octets = []; many = omega arith; wrote = refl; rest = ap joined e; low = h; high = k; room = r }
+  decodes-none h k r e = record { octets = []; many = omega arith; wrote = refl; rest = ap sixesOctets e; low = h; high = k; room = r }
 
   pub decodes-both : {at : ℕ} {out : List ℕ} {from : ℕ} {mid : List ℕ} {at′ k : ℕ} {new : List ℕ} {at″ end : ℕ} → Decodes file at to out from mid at′ k
       → Decodes file at′ to mid k new at″ end
@@ -126,7 +126,7 @@ module _ {file : List ℕ} {to : ℕ} where
   -- no octets are left at the end
   pub octets-end : {at : ℕ} {out : List ℕ} {from : ℕ} {new : List ℕ} {at′ end : ℕ} → Decodes file at to out from new at′ end → to ≤ at′
       → textOctets file at′ to ≡ []
-  unfolding joined sixes
+  unfolding sixesOctets sixes
   octets-end {at′ = at′} d h = let e : at′ ≡ to = omega (arith, d .high) in rw (e, slice-empty)
 
   -- ---- letters wherever they stand
@@ -162,7 +162,7 @@ module _ {file : List ℕ} {to : ℕ} where
             octets = groupOctets a b c d;
             many = refl;
             wrote = wrote;
-            rest = ap joined (here .1) ∙ joined-group a (sixes (slice p to file)) ∙ rw (x .1, y .1, z .1, x .0, y .0, z .0) refl;
+            rest = ap sixesOctets (here .1) ∙ joined-group a (sixes (slice p to file)) ∙ rw (x .1, y .1, z .1, x .0, y .0, z .0) refl;
             low = omega (arith, first .low, second .low, third .low, last .low);
             high = last .high;
             room = room;
@@ -216,15 +216,16 @@ module _ {file : List ℕ} {at to n : ℕ} {out : List ℕ} {from : ℕ} (run : 
     numbers-front = rw front (take-at (numbersAt file at n) (drop (0 + length (numbersAt file at n)) array) (4 * (n / 4)) numbers-count)
 
     -- and joined
-    pub decodes-run : {new : List ℕ} → new ≡ sets out from (joined (take (4 * (n / 4)) numbers)) → Decodes file at to out from new (at + n) (from + n / 4 * 3)
+    pub decodes-run : {new : List ℕ} → new ≡ sets out from (sixesOctets (take (4 * (n / 4)) numbers))
+        → Decodes file at to out from new (at + n) (from + n / 4 * 3)
     decodes-run wrote =
         record {
-          octets = joined (numbersAt file at n);
+          octets = sixesOctets (numbersAt file at n);
           many = omega (arith, joined-length (n / 4) (numbersAt file at n) numbers-count);
-          wrote = wrote ∙ ap (λ (l : List ℕ). sets out from (joined l)) numbers-front;
+          wrote = wrote ∙ ap (λ (l : List ℕ). sets out from (sixesOctets l)) numbers-front;
           rest =
-              ap (λ (t : List ℕ). joined (sixes t)) (slice-append file at (at + n) to (omega arith) (run .within) (run .inside))
-              ∙ ap joined (sixes-append (slice at (at + n) file) (slice (at + n) to file))
+              ap (λ (t : List ℕ). sixesOctets (sixes t)) (slice-append file at (at + n) to (omega arith) (run .within) (run .inside))
+              ∙ ap sixesOctets (sixes-append (slice at (at + n) file) (slice (at + n) to file))
               ∙ joined-append (n / 4) (numbersAt file at n) (sixes (slice (at + n) to file)) numbers-count;
           low = omega arith;
           high = run .within;

@@ -12,7 +12,7 @@ use Rattle.cbf_format.specs.Listing.{Placed, position}
 use Rattle.cbf_format.proofs.Slices.{slice-take}
 use Rattle.cbf_format.proofs.OctetLaws.{DataAt, position-in, octet-count}
 use Rattle.cbf_letters.specs.Octets.{textByte, textOctets, TextOf}
-use Rattle.cbf_letters.specs.Letters.{sixes, joined}
+use Rattle.cbf_letters.specs.Letters.{sixes, sixesOctets}
 use Rattle.cbf_letters.proofs.LetterLaws.{base64-octets}
 use Rattle.cbf_letters.proofs.TextLetters.{base64-good}
 
@@ -32,7 +32,7 @@ text-of {limit} {file} {p} d e =
     to = p .boundary + p .section .width - 31
 
     go : (d .found .lead ≡ 0) × (31 ≤ d .found .width) × (d .found .width ≤ length (drop (d .at) file)) × (length (d .found .octets) ≡ size)
-        × (d .found .octets ≡ take size (joined (sixes (take n (drop (d .at) file)))))
+        × (d .found .octets ≡ take size (sixesOctets (sixes (take n (drop (d .at) file)))))
         → ((i : ℕ) → i < n → textByte (getD (drop (d .at) file) i 0) ≡ true) → TextOf file p to
     go b good =
         let at : d .at ≡ position p = omega (arith, d .first, b .0) in
@@ -40,7 +40,7 @@ text-of {limit} {file} {p} d e =
         let text : take n (drop (d .at) file) ≡ slice (position p) to file =
         ap (λ (k : ℕ). take n (drop k file)) at ∙ sym (slice-take file (position p) n (position-in d)) ∙ ap (λ (k : ℕ). slice (position p) k file) wide in
         let octets : p .section .octets ≡ take size (textOctets file (position p) to) = d .octets ∙ b .4
-        ∙ ap (λ (l : List ℕ). take size (joined (sixes l))) text in
+        ∙ ap (λ (l : List ℕ). take size (sixesOctets (sixes l))) text in
         record {
           end = omega (arith, d .end, b .1);
           begun = omega (arith, wide);

@@ -21,9 +21,9 @@ abbrev pub groupOctets : ℕ → ℕ → ℕ → ℕ → List ℕ
 groupOctets a b c d = (a * 4 + b / 16) ∷ (b % 16 * 16 + c / 4) ∷ (c % 4 * 64 + d) ∷ []
 
 -- the octets of all letters; where the last group lacks letters, zeros stand for them
-unfoldable pub joined : List ℕ → List ℕ
-joined [] = []
-joined (a ∷ []) = groupOctets a 0 0 0
-joined (a ∷ b ∷ []) = groupOctets a b 0 0
-joined (a ∷ b ∷ c ∷ []) = groupOctets a b c 0
-joined (a ∷ b ∷ c ∷ d ∷ l) = groupOctets a b c d ++ joined l
+unfoldable pub sixesOctets : List ℕ → List ℕ
+sixesOctets [] = []
+sixesOctets (a ∷ []) = groupOctets a 0 0 0
+sixesOctets (a ∷ b ∷ []) = groupOctets a b 0 0
+sixesOctets (a ∷ b ∷ c ∷ []) = groupOctets a b c 0
+sixesOctets (a ∷ b ∷ c ∷ d ∷ l) = groupOctets a b c d ++ sixesOctets l

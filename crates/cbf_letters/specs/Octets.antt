@@ -10,7 +10,7 @@ use lib.Seq.{sets, slice}
 use Rattle.cbf_format.specs.Base64.{symbol, isOther}
 use Rattle.cbf_format.specs.Listing.{Placed, position}
 use Rattle.cbf_lines.specs.Text.{isLetter}
-use Rattle.cbf_letters.specs.Letters.{sixes, joined}
+use Rattle.cbf_letters.specs.Letters.{sixes, sixesOctets}
 
 -- a byte that good text may have: a letter, a pad, a blank, or of a line end
 abbrev pub textByte : ℕ → Bool
@@ -38,7 +38,7 @@ pub record NextSays (file : List ℕ) (at to number next : ℕ) : Type 0 where
 
 -- the octets of the text from a place on
 abbrev pub textOctets : List ℕ → ℕ → ℕ → List ℕ
-textOctets file at to = joined (sixes (slice at to file))
+textOctets file at to = sixesOctets (sixes (slice at to file))
 
 -- the text of a BASE64 section, from its first byte up to the closing boundary, with whose 31 bytes the span ends
 pub record TextOf (file : List ℕ) (p : Placed) (to : ℕ) : Type 0 where

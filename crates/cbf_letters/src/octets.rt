@@ -9,7 +9,7 @@ ghost use lib.ListN.{length, take, getD};
 ghost use lib.Seq.{sets};
 ghost use Rattle.cbf_format.specs.Base64.{symbol};
 ghost use Rattle.cbf_lines.specs.Text.{isLetter};
-ghost use Rattle.cbf_letters.specs.Letters.{groupOctets, joined};
+ghost use Rattle.cbf_letters.specs.Letters.{groupOctets, sixesOctets};
 ghost use Rattle.cbf_letters.specs.Octets.{GoodText, SixesOnly, Decodes, textOctets};
 
 // Writes the octets of four numbers.
@@ -25,7 +25,8 @@ fn put_group(a: u8, b: u8, c: u8, d: u8, out: &mut [u8], at: usize)
 // Writes the octets of k groups of numbers.
 fn join(numbers: &[u8], k: usize, out: &mut [u8], at: usize)
     requires { ⌜ (4 * k ≤ length (now numbers)) × SixesOnly (now numbers) (4 * k) × (at + 3 * k ≤ length (now out)) ⌝ }
-    ensures { λ _. ⌜ now (out .exit) ≡ sets (now (out .entry)) at (joined (take (4 * k) (now (numbers .entry)))) ⌝ }
+    ensures { λ _. ⌜ now (out .exit) ≡ sets (now (out .entry)) at
+        (sixesOctets (take (4 * k) (now (numbers .entry)))) ⌝ }
 {
     let mut j: usize = 0;
     while j < k {

@@ -31,7 +31,7 @@ use Rattle.cbf_format.proofs.VerdictLaws.{size-agrees}
 use Rattle.cbf_format.proofs.PlaceLaws.{read-place}
 use Rattle.cbf_format.proofs.OctetLaws.{DataAt, data-at, binary-octets}
 use Rattle.cbf_format.proofs.ReplacementLaws.{SpanAt, span-at}
-use Rattle.cbf_letters.specs.Letters.{addSix, sixes, joined}
+use Rattle.cbf_letters.specs.Letters.{addSix, sixes, sixesOctets}
 use Rattle.cbf_letters.proofs.SectionTexts.{text-of}
 use Rattle.cbf_sections.specs.SectionCalls.{orMissing, sectionNumbered, sectionOutcome, frameOf, frameFor}
 use Rattle.cbf_sections.specs.SectionCalls.{frameOutcome}
@@ -66,8 +66,8 @@ sixes-few (x ∷ t) = go (symbol x) (sixes-few t)
     go Blank h = omega arith
     go Other h = omega arith
 
-joined-few : (l : List ℕ) → length (joined l) ≤ length l + 2
-unfolding joined
+joined-few : (l : List ℕ) → length (sixesOctets l) ≤ length l + 2
+unfolding sixesOctets
 joined-few [] = omega arith
 joined-few (a ∷ []) = omega arith
 joined-few (a ∷ b ∷ []) = omega arith

@@ -70,7 +70,8 @@ fn unpack_octets(file: &[u8], s: Section, out: &mut [i64]) -> Answer
 pub fn unpack(file: &[u8], limit: usize, number: usize, out: &mut [i64]) -> Answer
     ensures answer { λ r. ⌜ outcome r ≡ frameOutcome (F.read limit (now (file .entry))) number
         (length (now (out .entry))) ⌝ }
-    ensures output { λ _. ⌜ now (out .exit) ≡ frameOutput (F.read limit (now (file .entry))) number (now (out .entry)) ⌝ }
+    ensures output { λ _. ⌜ now (out .exit) ≡ frameOutput (F.read limit (now (file .entry))) number
+        (now (out .entry)) ⌝ }
 {
     let numbered = cbf_reader::numbered_section(file, limit, number);
     match numbered {

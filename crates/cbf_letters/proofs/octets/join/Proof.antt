@@ -4,19 +4,19 @@ use Prim.Native.Nat.{_+_, _*_, _-_, _≤_}
 use native.Mathlib.Omega.{arith}
 use lib.ListN.{length, take}
 use lib.Seq.{sets}
-use Rattle.cbf_letters.specs.Letters.{joined}
+use Rattle.cbf_letters.specs.Letters.{sixesOctets}
 use Rattle.cbf_letters.proofs.OctetsLaws.{join-turn}
 use Rattle.cbf_letters.proofs.octets.join.Statement.{statement}
 use Rattle.cbf_letters.proofs.octets.join.Tie as tie
 
 abbrev Inv-loop : tie.InvT-loop
-Inv-loop numbers k out₀ at j₀ out j = (j ≤ k) × (length out ≡ length out₀) × (out ≡ sets out₀ at (joined (take (4 * j) numbers)))
+Inv-loop numbers k out₀ at j₀ out j = (j ≤ k) × (length out ≡ length out₀) × (out ≡ sets out₀ at (sixesOctets (take (4 * j) numbers)))
 
 abbrev μ-loop : tie.MeasureT-loop
 μ-loop numbers k out₀ at j₀ out j = k - j
 
 loop-holds : tie.Need-loop-holds Inv-loop μ-loop
-unfolding joined
+unfolding sixesOctets
 loop-holds c = (omega arith, refl, refl)
 
 put-group-requires : tie.Need-put-group-requires Inv-loop μ-loop
