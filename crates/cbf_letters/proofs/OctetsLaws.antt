@@ -19,7 +19,7 @@ use Rattle.cbf_lines.proofs.TextLaws.{run-then, getD-slice}
 use Rattle.cbf_lines.proofs.ClosingLaws.{slice-then}
 use Rattle.cbf_format.proofs.Base64Laws.{symbol-letter}
 use Rattle.cbf_letters.specs.Letters.{addSix, sixes, groupOctets, sixesOctets}
-use Rattle.cbf_letters.specs.Octets.{LettersOnly, SixesOnly, NextSays, textOctets, Decodes}
+use Rattle.cbf_letters.specs.Octets.{LettersOnly, SixesOnly, NextLetterSays, textOctets, Decodes}
 use Rattle.cbf_letters.proofs.LetterLaws.{sixes-append, joined-append, joined-length}
 
 -- ---- groups one after another
@@ -132,12 +132,13 @@ module _ {file : List ℕ} {to : ℕ} where
   -- ---- letters wherever they stand
 
   -- the next letter's number is the first, and 0 where there is none
-  next-number : {at n next : ℕ} → NextSays file at to n next
+  next-number : {at n next : ℕ} → NextLetterSays file at to n next
       → (getD (sixes (slice at to file)) 0 0 ≡ n) × (drop 1 (sixes (slice at to file)) ≡ sixes (slice next to file))
   unfolding sixes
   next-number s = ⊎-elim (λ w. rw (w .1) (refl, refl)) (λ w. rw (w .0, w .1, w .2, slice-empty) (refl, refl)) (s .says)
 
-  module _ {at a p : ℕ} (h : at < to) (fits : to ≤ length file) (letter : isLetter (symbol (getD file at 0)) ≡ true) (first : NextSays file at to a p) where
+  module _ {at a p : ℕ} (h : at < to) (fits : to ≤ length file) (letter : isLetter (symbol (getD file at 0)) ≡ true)
+      (first : NextLetterSays file at to a p) where
     -- the next letter of a place where one stands
     here : (at < p) × (sixes (slice at to file) ≡ a ∷ sixes (slice p to file))
     unfolding sixes
@@ -149,7 +150,8 @@ module _ {file : List ℕ} {to : ℕ} where
             let n = added-letter (symbol (getD file at 0)) (sixes (slice (suc at) to file)) letter in
             omega (arith, ap length e)
 
-    pub decodes-group : {b q c r d s : ℕ} → NextSays file p to b q → NextSays file q to c r → NextSays file r to d s → {out : List ℕ} {from : ℕ} {new : List ℕ}
+    pub decodes-group : {b q c r d s : ℕ} → NextLetterSays file p to b q → NextLetterSays file q to c r
+        → NextLetterSays file r to d s → {out : List ℕ} {from : ℕ} {new : List ℕ}
         → from + 3 ≤ length out
         → new ≡ sets out from (groupOctets a b c d)
         → (at < s) × Decodes file at to out from new s (from + 3)

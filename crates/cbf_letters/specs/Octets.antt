@@ -29,7 +29,7 @@ abbrev pub SixesOnly : List ℕ → ℕ → Type 0
 SixesOnly numbers n = (i : ℕ) → i < n → getD numbers i 0 < 64
 
 -- the first letter from a place on, and the place after it; 0 and the end where there is none
-pub record NextSays (file : List ℕ) (at to number next : ℕ) : Type 0 where
+pub record NextLetterSays (file : List ℕ) (at to number next : ℕ) : Type 0 where
   pub low : at ≤ next
   pub high : next ≤ to
   pub small : number < 64

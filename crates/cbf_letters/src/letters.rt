@@ -9,7 +9,7 @@ ghost use Rattle.cbf_format.specs.Base64.{symbol};
 ghost use Rattle.cbf_format.specs.declared.Symbol.the-variants.{Letter};
 ghost use Rattle.cbf_lines.specs.Text.{isLetter};
 ghost use Rattle.cbf_letters.specs.Letters.{sixes};
-ghost use Rattle.cbf_letters.specs.Octets.{textByte, GoodText, LettersOnly, NextSays};
+ghost use Rattle.cbf_letters.specs.Octets.{textByte, GoodText, LettersOnly, NextLetterSays};
 
 // Whether a byte of good text is a letter. Of what is no letter only the pad is above 42.
 fn letter(b: u8) -> bool
@@ -115,7 +115,7 @@ pub struct Six {
 // The next letter.
 pub fn next_letter(file: &[u8], at: usize, to: usize) -> Six
     requires { ⌜ (at ≤ to) × (to ≤ length (now file)) × GoodText (now file) at to ⌝ }
-    ensures { λ r. ⌜ NextSays (now (file .entry)) at to (r .number) (r .next) ⌝ }
+    ensures { λ r. ⌜ NextLetterSays (now (file .entry)) at to (r .number) (r .next) ⌝ }
 {
     let i = next_place(file, at, to);
     if i < to {

@@ -17,16 +17,16 @@ use Rattle.cbf_pixels.specs.Octets.{number, half, signed}
 use Rattle.cbf_pixels.specs.Pixels.{run-out, got, readBy, widths, within, least, greatest, addDifference, nextPixel}
 use Rattle.cbf_pixels.specs.Pixels.{unpackFrom, unpackByteOffset}
 use Rattle.cbf_pixels.specs.PixelCalls.{isSome}
-use Rattle.cbf_octets.specs.Rest.{rest, onto, Enough, Behind}
+use Rattle.cbf_octets.specs.Rest.{rest, ontoPixels, Enough, Behind}
 use Rattle.cbf_octets.specs.Difference.{Whole}
 use Rattle.cbf_pixels.proofs.Bounds.{total}
 
-pub some-onto : (xs : List ℤ) (r : Option (List ℤ)) → isSome (onto xs r) ≡ isSome r
+pub some-onto : (xs : List ℤ) (r : Option (List ℤ)) → isSome (ontoPixels xs r) ≡ isSome r
 unfolding isSome
 some-onto xs none = refl
 some-onto xs (some ps) = refl
 
-map-onto : (p : ℤ) (r : Option (List ℤ)) → Option·map (λ (ps : List ℤ). p ∷ ps) r ≡ onto (p ∷ []) r
+map-onto : (p : ℤ) (r : Option (List ℤ)) → Option·map (λ (ps : List ℤ). p ∷ ps) r ≡ ontoPixels (p ∷ []) r
 map-onto p none = refl
 map-onto p (some ps) = refl
 
@@ -103,7 +103,7 @@ module _ (t : ElementType) (os tail : List ℕ) (z : ℤ) (i m : ℕ) where
   one-more = let e : 1 + m ≡ suc m = omega arith in ap (rest t os tail z i) e
 
   module _ (d : ℤ) (j : ℕ) (e : readBy widths (drop i os) ≡ got d (drop j os)) where
-    pub rest-next : within (least t) (greatest t) (z +ℤ d) ≡ true → rest t os tail z i (1 + m) ≡ onto ((z +ℤ d) ∷ []) (rest t os tail (z +ℤ d) j m)
+    pub rest-next : within (least t) (greatest t) (z +ℤ d) ≡ true → rest t os tail z i (1 + m) ≡ ontoPixels ((z +ℤ d) ∷ []) (rest t os tail (z +ℤ d) j m)
     unfolding rest unpackFrom nextPixel addDifference
     rest-next w =
         one-more ∙ rw (read-behind widths (drop i os) tail e, w) (map-onto (z +ℤ d) (unpackFrom (least t) (greatest t) (z +ℤ d) m (drop j os ++ tail)))

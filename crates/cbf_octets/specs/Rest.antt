@@ -19,9 +19,9 @@ rest t os tail z i n = unpackFrom (least t) (greatest t) z n (drop i os ++ tail)
 abbrev pub Enough : List ℕ → List ℕ → ℕ → ℕ → Type 0
 Enough os tail i size = (tail ≡ []) ⊎ (i + size ≤ length os)
 
-abbrev pub onto : List ℤ → Option (List ℤ) → Option (List ℤ)
-onto xs none = none
-onto xs (some ps) = some (xs ++ ps)
+abbrev pub ontoPixels : List ℤ → Option (List ℤ) → Option (List ℤ)
+ontoPixels xs none = none
+ontoPixels xs (some ps) = some (xs ++ ps)
 
 -- ---- Parts. Octets that come through a window are unpacked part by part: each pass goes over the octets that are
 -- there, and stops where fewer than 480 are left (32 pixels of at most 15), unless the octets have ended.

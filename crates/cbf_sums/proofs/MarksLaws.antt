@@ -3,7 +3,7 @@ use Prim.Native.Nat.{ℕ, _+_, _<_, _*_, _-_}
 use mathlib.Core.Path.{_≡_, refl, ap, ap₂, _∙_, subst}
 use mathlib.Core.List.{List}
 use lib.ListN.{length, getD, replicate, getD-replicate}
-use Rattle.cbf_sums.specs.Mixed.{markAt, IsMark, endOf, endsTo, choose, signOf, joinedAt, addedAt, Addends}
+use Rattle.cbf_sums.specs.Mixed.{markAt, IsMark, endMark, endsTo, choose, signOf, joinedAt, addedAt, Addends}
 use native.Mathlib.Omega.{arith}
 use native.Mathlib.Numerals.{add-one}
 use mathlib.Core.Bool.{Bool, true, false, cond}
@@ -27,14 +27,14 @@ pub record Marked (os : List ℕ) (i : ℕ) (ms : List ℕ) : Type 0 where
 pub or-none : (f : ℕ → ℕ) (j all : ℕ) → (all ≡ 0 → (k : ℕ) → k < j → f k ≡ 0) → bitOr all (f j) ≡ 0 → (k : ℕ) → k < j + 1 → f k ≡ 0
 or-none f j all before e = below-more (λ (k : ℕ). f k ≡ 0) j (before (omega (arith, e, or-left all (f j)))) (omega (arith, e, or-right all (f j)))
 
-pub end-is : (b c : ℕ) → IsMark b → IsMark c → bitAnd 1 (bitXor 255 (bitOr b c)) ≡ endOf b c
-unfolding endOf
+pub end-is : (b c : ℕ) → IsMark b → IsMark c → bitAnd 1 (bitXor 255 (bitOr b c)) ≡ endMark b c
+unfolding endMark
 end-is b c (inl p) (inl q) = rw (p, q)
 end-is b c (inl p) (inr q) = rw (p, q)
 end-is b c (inr p) (inl q) = rw (p, q)
 end-is b c (inr p) (inr q) = rw (p, q)
 
-pub ends-more : (ms : List ℕ) (j : ℕ) → endsTo ms (j + 1) ≡ endsTo ms j + endOf (getD ms (15 + j) 0) (getD ms (16 + j) 0)
+pub ends-more : (ms : List ℕ) (j : ℕ) → endsTo ms (j + 1) ≡ endsTo ms j + endMark (getD ms (15 + j) 0) (getD ms (16 + j) 0)
 unfolding endsTo
 ends-more ms j = ap (endsTo ms) (add-one j)
 

@@ -15,7 +15,7 @@ use borrow.Author.Tests.{lt-ltb, ltb-true, ltb-false, eqb-true, eqb-false}
 use Rattle.cbf_pixels.specs.Octets.{number, half, signed}
 use Rattle.cbf_octets.specs.Difference.{Took}
 use Rattle.cbf_sums.specs.Passes.{biasedLeast, Between, Passes}
-use Rattle.cbf_sums.specs.Mixed.{markOf, IsMark, EachMark, Apart, endOf, endsTo, wholeOf, choose, signOf}
+use Rattle.cbf_sums.specs.Mixed.{markOf, IsMark, EachMark, Apart, endMark, endsTo, wholeOctets, choose, signOf}
 use Rattle.cbf_sums.specs.Mixed.{addedAt, Walk}
 use Rattle.cbf_sums.proofs.MarksLaws.{Marked}
 use Rattle.cbf_octets.proofs.OctetsLaws.{number-one, number-parts}
@@ -53,8 +53,8 @@ each-mark os i ms M k h = go (ltb k 16) refl
         let e : 16 + (k - 16) ≡ k = omega arith in
         subst IsMark (sym (M .mark (k - 16) (omega arith)) ∙ ap (λ (n : ℕ). getD ms n 0) e) (from (mark-of (getD os (i + (k - 16)) 0)))
 
-pub whole-most : (ms : List ℕ) → wholeOf ms ≤ 192
-unfolding wholeOf
+pub whole-most : (ms : List ℕ) → wholeOctets ms ≤ 192
+unfolding wholeOctets
 whole-most ms = go (ltb 0 (getD ms 207 0)) (ltb 0 (getD ms 206 0))
   where
     go : (t u : Bool) → cond t 191 (cond u 190 192) ≤ 192
@@ -80,12 +80,12 @@ choose-end : (a b c x y : ℕ) → a ≡ 255 → choose a b c x y ≡ y
 unfolding choose
 choose-end a b c x y p = rw p
 
-ends-here : (b c : ℕ) → b ≡ 0 → c ≡ 0 → endOf b c ≡ 1
-unfolding endOf
+ends-here : (b c : ℕ) → b ≡ 0 → c ≡ 0 → endMark b c ≡ 1
+unfolding endMark
 ends-here b c p q = rw (p, q)
 
-ends-not : (b c : ℕ) → 0 < b + c → endOf b c ≡ 0
-unfolding endOf
+ends-not : (b c : ℕ) → 0 < b + c → endMark b c ≡ 0
+unfolding endMark
 ends-not b c h = rw (lt-ltb 0 (b + c) h)
 
 -- a plain octet extended to two
@@ -160,23 +160,23 @@ module _ (top : ℕ) (os : List ℕ) (start i : ℕ) where
       (from : Between top v) (to : Between top v′)
       (adds : pos v′ ≡ pos v +ℤ signed 2 (choose a b c (getD os k 0) (getD os (k - 1) 0) + 256 * choose a b c (signOf (getD os k 0)) (getD os k 0))) where
     -- nothing is added, and no difference ends
-    nothing : (p : ℕ) → a ≡ 0 → 0 < b + c → Passes top os start i n v p → Passes top os start i (n + endOf b c) v′ p
+    nothing : (p : ℕ) → a ≡ 0 → 0 < b + c → Passes top os start i n v p → Passes top os start i (n + endMark b c) v′ p
     nothing p ea h P =
         let x = choose-none a b c (getD os k 0) (getD os (k - 1) 0) ea h in
         let y = choose-none a b c (signOf (getD os k 0)) (getD os k 0) ea h in
         let e = pos-same v v′ (sym (adds ∙ ap₂ (λ (s t : ℕ). pos v +ℤ signed 2 (s + 256 * t)) x y ∙ add-zero v)) in
         let f = ends-not b c h in
-        let g : n ≡ n + endOf b c = omega arith in
-        subst (λ (w : ℕ). Passes top os start i (n + endOf b c) w p) e (subst (λ (m : ℕ). Passes top os start i m v p) g P)
+        let g : n ≡ n + endMark b c = omega arith in
+        subst (λ (w : ℕ). Passes top os start i (n + endMark b c) w p) e (subst (λ (m : ℕ). Passes top os start i m v p) g P)
 
     -- a difference from p on ends
     one-more : (p : ℕ) (d : ℤ) → Took os p d (k + 1) → b ≡ 0 → c ≡ 0 → pos v′ ≡ pos v +ℤ d → Passes top os start i n v p
-        → Passes top os start i (n + endOf b c) v′ (k + 1)
+        → Passes top os start i (n + endMark b c) v′ (k + 1)
     one-more p d T eb ec e P =
         subst (λ (m : ℕ). Passes top os start i (n + m) v′ (k + 1)) (sym (ends-here b c eb ec))
         (passes-passes top os start i n 1 v p v′ (k + 1) P (step-in T from e to))
 
-    plain : a ≡ 0 → b ≡ 0 → c ≡ 0 → (getD os k 0 ≡ 128 → ⊥) → Passes top os start i n v k → Passes top os start i (n + endOf b c) v′ (k + 1)
+    plain : a ≡ 0 → b ≡ 0 → c ≡ 0 → (getD os k 0 ≡ 128 → ⊥) → Passes top os start i n v k → Passes top os start i (n + endMark b c) v′ (k + 1)
     plain ea eb ec o P =
         let x = choose-plain a b c (getD os k 0) (getD os (k - 1) 0) ea eb ec in
         let y = choose-plain a b c (signOf (getD os k 0)) (getD os k 0) ea eb ec in
@@ -184,7 +184,7 @@ module _ (top : ℕ) (os : List ℕ) (start i : ℕ) where
         (adds ∙ ap (λ (z : ℤ). pos v +ℤ z) (ap₂ (λ (s t : ℕ). signed 2 (s + 256 * t)) x y ∙ signed-wide (getD os k 0) (octet k))) P
 
     last : (p : ℕ) → p + 2 ≡ k → getD os p 0 ≡ 128 → a ≡ 255 → b ≡ 0 → c ≡ 0 → (getD os k 0 ≡ 128 → ⊥)
-        → Passes top os start i n v p → Passes top os start i (n + endOf b c) v′ (k + 1)
+        → Passes top os start i n v p → Passes top os start i (n + endMark b c) v′ (k + 1)
     last p ep es ea eb ec o P =
         let e1 : k - 1 ≡ p + 1 = omega arith in
         let e3 : p + 3 ≡ k + 1 = omega arith in
@@ -199,7 +199,7 @@ module _ (top : ℕ) (os : List ℕ) (start i : ℕ) where
         two-not : (s t : ℕ) → s < 256 → (t ≡ 128 → ⊥) → s + 256 * t ≡ 32768 → ⊥
         two-not s t h n e = omega arith
 
-    at-next : Octet (getD os k 0) c → At a b n v k → At b c (n + endOf b c) v′ (k + 1)
+    at-next : Octet (getD os k 0) c → At a b n v k → At b c (n + endMark b c) v′ (k + 1)
     at-next (escape o ec) (fresh ea eb P) = after-one eb ec k refl o (nothing k ea (omega arith) P)
     at-next (other o ec) (fresh ea eb P) = fresh eb ec (plain ea eb ec o P)
     at-next (escape o ec) (after-one ea eb p ep es P) = absurd (crowded a b c ec (ap₂ bitOr eb ea) apart)
@@ -211,8 +211,8 @@ module _ (top : ℕ) (os : List ℕ) (start i : ℕ) where
 
 -- a difference that starts among the last two octets is left for later
 whole-is : (top : ℕ) (os : List ℕ) (b i : ℕ) (ms : List ℕ) (n v : ℕ) → At top os b i (getD ms 206 0) (getD ms 207 0) n v (i + 192)
-    → Passes top os b i n v (i + wholeOf ms)
-unfolding wholeOf
+    → Passes top os b i n v (i + wholeOctets ms)
+unfolding wholeOctets
 whole-is top os b i ms n v (fresh ea eb P) = rw (ea, eb) P
 whole-is top os b i ms n v (after-one ea eb p ep es P) =
     let e : p ≡ i + 191 = omega arith in
@@ -234,7 +234,7 @@ module _ (top : ℕ) (os : List ℕ) (i : ℕ) (ms ds : List ℕ) (b b′ : ℕ)
     where
       more : At top os b i (getD ms (14 + j) 0) (getD ms (15 + j) 0) (endsTo ms j) (W .at j) (i + j)
           → At top os b i (getD ms (14 + suc j) 0) (getD ms (15 + suc j) 0)
-          (endsTo ms j + endOf (getD ms (15 + j) 0) (getD ms (16 + j) 0)) (W .at (suc j)) (i + suc j)
+          (endsTo ms j + endMark (getD ms (15 + j) 0) (getD ms (16 + j) 0)) (W .at (suc j)) (i + suc j)
       more s =
           let e14 : 15 + j ≡ 14 + suc j = omega arith in
           let e15 : 16 + j ≡ 15 + suc j = omega arith in
@@ -248,7 +248,7 @@ module _ (top : ℕ) (os : List ℕ) (i : ℕ) (ms ds : List ℕ) (b b′ : ℕ)
 -- the octets of the whole differences, and the pixels that they lead to
 pub mixed-passes : (top : ℕ) (os : List ℕ) (i : ℕ) (ms ds : List ℕ) (b b′ : ℕ) → Marked os i ms → Apart ms
     → ((j : ℕ) → j < 192 → getD ds (16 + j) 0 ≡ addedAt os i ms j)
-    → ((k : ℕ) → getD os k 0 < 256) → 1 ≤ i → i + 192 ≤ length os → Walk ds biasedLeast top b b′ → Passes top os b i (endsTo ms 192) b′ (i + wholeOf ms)
+    → ((k : ℕ) → getD os k 0 < 256) → 1 ≤ i → i + 192 ≤ length os → Walk ds biasedLeast top b b′ → Passes top os b i (endsTo ms 192) b′ (i + wholeOctets ms)
 mixed-passes top os i ms ds b b′ M apart adds octet _ inside W =
-    subst (λ (v : ℕ). Passes top os b i (endsTo ms 192) v (i + wholeOf ms)) (W .last)
+    subst (λ (v : ℕ). Passes top os b i (endsTo ms 192) v (i + wholeOctets ms)) (W .last)
     (whole-is top os b i ms (endsTo ms 192) (W .at 192) (mixed-at top os i ms ds b b′ M apart adds octet inside W 192 (omega arith)))

@@ -31,18 +31,18 @@ abbrev pub Apart : List ℕ → Type 0
 Apart ms = (j : ℕ) → j < 192 → bitAnd (getD ms (16 + j) 0) (bitOr (getD ms (15 + j) 0) (getD ms (14 + j) 0)) ≡ 0
 
 -- 1 where a difference ends: at an octet with the mark c, and b before it
-unfoldable pub endOf : ℕ → ℕ → ℕ
-endOf b c = cond (ltb 0 (b + c)) 0 1
+unfoldable pub endMark : ℕ → ℕ → ℕ
+endMark b c = cond (ltb 0 (b + c)) 0 1
 
 -- how many differences end in the first n octets
 unfoldable pub endsTo : List ℕ → ℕ → ℕ
-unfolding endOf
+unfolding endMark
 endsTo ms zero = 0
-endsTo ms (suc n) = endsTo ms n + endOf (getD ms (15 + n) 0) (getD ms (16 + n) 0)
+endsTo ms (suc n) = endsTo ms n + endMark (getD ms (15 + n) 0) (getD ms (16 + n) 0)
 
 -- how many of the octets are of whole differences
-unfoldable pub wholeOf : List ℕ → ℕ
-wholeOf ms = cond (ltb 0 (getD ms 207 0)) 191 (cond (ltb 0 (getD ms 206 0)) 190 192)
+unfoldable pub wholeOctets : List ℕ → ℕ
+wholeOctets ms = cond (ltb 0 (getD ms 207 0)) 191 (cond (ltb 0 (getD ms 206 0)) 190 192)
 
 -- ---- what an octet adds to the pixel before it, as a number of 16 bits
 

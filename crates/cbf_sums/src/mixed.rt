@@ -9,8 +9,9 @@ ghost use lib.Bits.{bitXor};
 ghost use lib.ListN.{length, getD};
 ghost use Rattle.cbf_sums.specs.Passes.{biasedLeast, Top, Between, Passed};
 ghost use Rattle.cbf_sums.specs.Summing.{Written, backAt, Windows, Levels};
-ghost use Rattle.cbf_sums.specs.Mixed.{markOf, markAt, IsMark, EachMark, Apart, endOf, endsTo, wholeOf, choose};
-ghost use Rattle.cbf_sums.specs.Mixed.{signOf, lowAt, highAt, joinedAt, addedAt, Addends, raisedTo, Walk};
+ghost use Rattle.cbf_sums.specs.Mixed.{markOf, markAt, IsMark, EachMark, Apart, endMark, endsTo, wholeOctets};
+ghost use Rattle.cbf_sums.specs.Mixed.{choose, signOf, lowAt, highAt, joinedAt, addedAt, Addends, raisedTo};
+ghost use Rattle.cbf_sums.specs.Mixed.{Walk};
 
 // 255 for the escape, else 0.
 fn mark(o: u8) -> u8
@@ -47,7 +48,7 @@ fn crowded(marks: &[u8; 208]) -> u8
 // 1 where a difference ends: c is the mark of an octet, b of the one before it.
 fn end(b: u8, c: u8) -> u8
     requires { ⌜ IsMark b × IsMark c ⌝ }
-    ensures { λ r. ⌜ (r ≡ endOf b c) × (r ≤ 1) ⌝ }
+    ensures { λ r. ⌜ (r ≡ endMark b c) × (r ≤ 1) ⌝ }
 {
     1 & (255 ^ (b | c))
 }
@@ -236,7 +237,7 @@ fn last_pixel(added: &mut [u16; 208], biased: u64, top: u64) -> u64
 
 // How many of the 192 octets are of whole differences.
 fn whole_octets(marks: &[u8; 208]) -> usize
-    ensures { λ r. ⌜ (r ≡ wholeOf (now (marks .entry))) × (r ≤ 192) ⌝ }
+    ensures { λ r. ⌜ (r ≡ wholeOctets (now (marks .entry))) × (r ≤ 192) ⌝ }
 {
     if marks[207] != 0 {
         return 191;

@@ -19,7 +19,7 @@ use Rattle.cbf_pixels.specs.declared.ElementType.{ElementType}
 use Rattle.cbf_octets.specs.declared.Part.{Part}
 use Rattle.cbf_pixels.specs.Pixels.{within, least, greatest, unpackFrom, unpackByteOffset}
 use Rattle.cbf_pixels.specs.PixelCalls.{isSome, pixelsOf}
-use Rattle.cbf_octets.specs.Rest.{rest, onto, Behind, Stopped}
+use Rattle.cbf_octets.specs.Rest.{rest, ontoPixels, Behind, Stopped}
 use Rattle.cbf_unpack.specs.Fill.{Fillable}
 use Rattle.cbf_pixels.proofs.Integers.{never, within-small, held}
 use Rattle.cbf_answers.proofs.Stores.{sets-append}
@@ -44,7 +44,7 @@ pub record Written (all left : Option (List ℤ)) (out₀ out : List ℤ) (z : �
   pub pixels : List ℤ
   pub many : length pixels ≡ k
   pub wrote : out ≡ sets out₀ 0 pixels
-  pub says : all ≡ onto pixels left
+  pub says : all ≡ ontoPixels pixels left
   pub small : mag z < 2 ^ 32
 
 pub record Done (writing : Bool) (t : ElementType) (all left : Option (List ℤ)) (out₀ out : List ℤ) (z : ℤ) (k : ℕ) : Type 0 where
@@ -102,7 +102,7 @@ module _ {writing : Bool} {t : ElementType} {all : Option (List ℤ)} {os tail :
               wrote = f .wrote ∙ ap (λ (x : List ℤ). sets x k (f .pixels)) (o .wrote)
                   ∙ ap (λ (x : ℕ). sets (sets out₀ 0 (o .pixels)) x (f .pixels)) here ∙ sets-append out₀ 0 (o .pixels)
                   (f .pixels);
-              says = o .says ∙ ap (onto (o .pixels)) (f .leads t tail b (sym (left-same d) ∙ a e)) ∙ onto-onto (o .pixels) (f .pixels) l;
+              says = o .says ∙ ap (ontoPixels (o .pixels)) (f .leads t tail b (sym (left-same d) ∙ a e)) ∙ onto-onto (o .pixels) (f .pixels) l;
               small = f .after;
             };
       }
@@ -202,7 +202,7 @@ module _ {t : ElementType} {file : List ℕ} {from to count : ℕ} {writing : Bo
           let o = ended-is .written e in
           let ps = o .pixels in
           let m : 0 + length ps ≡ count = omega (arith, o .many, s .few) in
-          let q : all ≡ some (ps ++ []) = o .says ∙ ap (onto ps) (rest-empty t (take (w .have) window)
+          let q : all ≡ some (ps ++ []) = o .says ∙ ap (ontoPixels ps) (rest-empty t (take (w .have) window)
           (take (w .left) (textOctets file (w .at) to)) z (w .next) (sym (left-same ended-is) ∙ a e .1)) in
           rw e
           (o .wrote

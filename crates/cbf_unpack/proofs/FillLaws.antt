@@ -19,7 +19,7 @@ use Rattle.cbf_octets.specs.declared.Part.{Part}
 use Rattle.cbf_pixels.specs.Pixels.{got, readBy, widths, within, least, greatest, unpackFrom, unpackByteOffset}
 use Rattle.cbf_pixels.specs.PixelCalls.{isSome, pixelsOf}
 use Rattle.cbf_octets.specs.Difference.{Whole, Took}
-use Rattle.cbf_octets.specs.Rest.{rest, Enough, onto, Behind, Stopped}
+use Rattle.cbf_octets.specs.Rest.{rest, Enough, ontoPixels, Behind, Stopped}
 use Rattle.cbf_unpack.specs.Fill.{Unpacks, Filled, Fillable, FilledPart}
 use Rattle.cbf_pixels.proofs.Integers.{never, within-small, mag-sub, back, held}
 use Rattle.cbf_pixels.proofs.Numbers.{abs-le}
@@ -30,11 +30,11 @@ use Rattle.cbf_octets.proofs.RestLaws.{rest-start}
 
 -- ---- lists of pixels, and what is left
 
-pub onto-onto : (xs ys : List ℤ) (o : Option (List ℤ)) → onto xs (onto ys o) ≡ onto (xs ++ ys) o
+pub onto-onto : (xs ys : List ℤ) (o : Option (List ℤ)) → ontoPixels xs (ontoPixels ys o) ≡ ontoPixels (xs ++ ys) o
 onto-onto xs ys none = refl
 onto-onto xs ys (some ps) = ap some (sym (append-assoc xs ys ps))
 
-pub onto-nil : (o : Option (List ℤ)) → o ≡ onto [] o
+pub onto-nil : (o : Option (List ℤ)) → o ≡ ontoPixels [] o
 onto-nil none = refl
 onto-nil (some ps) = refl
 
@@ -134,14 +134,14 @@ filled-then {os} {z} {z′} {z″} {i} {j} {j′} {n} {m} {n′} {k} {k′} {out
     }
   where
     leads : (t : ElementType) (tail : List ℕ) (r : ℕ) → isSome (rest t os tail z i (n′ + r)) ≡ true → rest t os tail z
-        i (n′ + r) ≡ onto (f .pixels ++ g .pixels) (rest t os tail z″ j′ r)
+        i (n′ + r) ≡ ontoPixels (f .pixels ++ g .pixels) (rest t os tail z″ j′ r)
     leads t tail r s =
         let e : n′ + r ≡ n + (m + r) = omega arith in
         let a = ap (rest t os tail z i) e in
         let s₁ = ap isSome (sym a) ∙ s in
         let p = f .leads t tail (m + r) s₁ in
         let s₂ = sym (some-onto (f .pixels) (rest t os tail z′ j (m + r))) ∙ ap isSome (sym p) ∙ s₁ in
-        a ∙ p ∙ ap (onto (f .pixels)) (g .leads t tail r s₂) ∙ onto-onto (f .pixels) (g .pixels) (rest t os tail z″ j′ r)
+        a ∙ p ∙ ap (ontoPixels (f .pixels)) (g .leads t tail r s₂) ∙ onto-onto (f .pixels) (g .pixels) (rest t os tail z″ j′ r)
 
 -- the same run, with its numbers said otherwise
 pub filled-as : {os : List ℕ} {z z₁ z′ z₁′ : ℤ} {i j j₁ n n₁ k : ℕ} {out out′ : List ℤ} → Filled os z i n z′ j k out out′ → z ≡ z₁ → n ≡ n₁ → z′ ≡ z₁′ → j ≡ j₁
@@ -237,7 +237,7 @@ filled-part {os} {ended} {z} {z′} {i} {count} {n} {j} {k} {out} {out′} r f h
     }
   where
     leads : (t : ElementType) (tail : List ℕ) → Behind ended tail → isSome (rest t os tail z i count) ≡ true
-        → rest t os tail z i count ≡ onto (f .pixels) (rest t os tail (r .last .pixel) (r .last .next) (count - r .count))
+        → rest t os tail z i count ≡ ontoPixels (f .pixels) (rest t os tail (r .last .pixel) (r .last .next) (count - r .count))
     leads t tail _ s =
         let e : n + (count - n) ≡ count = omega arith in
         let q = ap (rest t os tail z i) e in
@@ -269,9 +269,10 @@ filled-end t {os} {count} {out} {out′} {r} s h f =
     let a = rest-start t os count in
     let s₁ = sym (ap isSome a) ∙ s in
     let n : count - r .count ≡ 0 = omega arith in
-    let p : rest t os [] (pos 0) 0 count ≡ onto ps (rest t os [] z j 0) = f .leads t [] (λ _. refl) s₁ ∙ ap (λ (x : ℕ). onto ps (rest t os [] z j x)) n in
+    let p : rest t os [] (pos 0) 0 count ≡ ontoPixels ps (rest t os [] z j 0) = f .leads t [] (λ _. refl) s₁
+    ∙ ap (λ (x : ℕ). ontoPixels ps (rest t os [] z j x)) n in
     let s₂ = sym (some-onto ps (rest t os [] z j 0)) ∙ ap isSome (sym p) ∙ s₁ in
-    let q : unpackByteOffset t count os ≡ some (ps ++ []) = a ∙ p ∙ ap (onto ps) (rest-empty t os [] z j s₂) in
+    let q : unpackByteOffset t count os ≡ some (ps ++ []) = a ∙ p ∙ ap (ontoPixels ps) (rest-empty t os [] z j s₂) in
     let e : 0 + length ps ≡ count = omega (arith, f .many) in
     f .wrote
     ∙ sets-eq ps out 0 (omega (arith, f .many))

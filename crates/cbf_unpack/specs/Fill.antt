@@ -12,7 +12,7 @@ use lib.Signed.{mag}
 use Rattle.cbf_pixels.specs.PixelCalls.{isSome}
 use Rattle.cbf_pixels.specs.declared.ElementType.{ElementType}
 use Rattle.cbf_octets.specs.declared.Part.{Part}
-use Rattle.cbf_octets.specs.Rest.{rest, Enough, onto, Behind, Stopped}
+use Rattle.cbf_octets.specs.Rest.{rest, Enough, ontoPixels, Behind, Stopped}
 
 -- n pixels unpack, with octets behind those that are there. Of those that are there, size stand from i on, unless
 -- nothing is behind them.
@@ -30,7 +30,7 @@ pub record Filled (os : List ℕ) (z : ℤ) (i n : ℕ) (z′ : ℤ) (j k : ℕ)
   pub many : length pixels ≡ n
   pub wrote : out′ ≡ sets out k pixels
   pub leads : (t : ElementType) (tail : List ℕ) (m : ℕ) → isSome (rest t os tail z i (n + m)) ≡ true → rest t os tail
-      z i (n + m) ≡ onto pixels (rest t os tail z′ j m)
+      z i (n + m) ≡ ontoPixels pixels (rest t os tail z′ j m)
   pub after : mag z′ < 2 ^ 32
   pub reach : j ≤ i + 15 * n
   pub inside : j ≤ length os
@@ -53,6 +53,6 @@ pub record FilledPart (os : List ℕ) (ended : Bool) (z : ℤ) (i count k : ℕ)
   pub many : length pixels ≡ r .count
   pub wrote : out′ ≡ sets out k pixels
   pub leads : (t : ElementType) (tail : List ℕ) → Behind ended tail → isSome (rest t os tail z i count) ≡ true
-      → rest t os tail z i count ≡ onto pixels (rest t os tail (r .last .pixel) (r .last .next) (count - r .count))
+      → rest t os tail z i count ≡ ontoPixels pixels (rest t os tail (r .last .pixel) (r .last .next) (count - r .count))
   pub after : mag (r .last .pixel) < 2 ^ 32
   pub stopped : Stopped os ended count (r .count) (r .last .next)
