@@ -6,14 +6,11 @@ use mathlib.Core.List.{List, [], _∷_, _++_}
 use lib.ListN.{length, set}
 use lib.Seq.{sets}
 
--- ---- storing
-
 -- one run of stores after another
 pub sets-append : {A : Type 0} (l : List A) (i : ℕ) (a b : List A) → sets (sets l i a) (i + length a) b ≡ sets l i (a ++ b)
 sets-append l i [] b = ap (λ (k : ℕ). sets l k b) (omega arith)
 sets-append l i (x ∷ a) b = ap (λ (k : ℕ). sets (sets (set l i x) (suc i) a) k b) (omega arith) ∙ sets-append (set l i x) (suc i) a b
 
--- ---- runs of stores
-
+-- the same, by the number of the first
 pub sets-then : (l : List ℕ) (i n : ℕ) (xs ys : List ℕ) → length xs ≡ n → sets (sets l i xs) (i + n) ys ≡ sets l i (xs ++ ys)
 sets-then l i n xs ys e = ap (λ (k : ℕ). sets (sets l i xs) (i + k) ys) (sym e) ∙ sets-append l i xs ys

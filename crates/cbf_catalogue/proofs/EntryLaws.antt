@@ -14,7 +14,8 @@ use Rattle.cbf_pixels.proofs.Numbers.{length-octets, octets-number}
 use Rattle.cbf_format.specs.declared.Encoding.{Encoding}
 use Rattle.cbf_format.specs.Catalogue.{labelWidth, compressionNumber, typeNumber, encodingNumber, zeros, label, entry}
 use Rattle.cbf_catalogue.specs.Entry.{fourNumbers}
-use Rattle.cbf_write.proofs.Puts.{sets-append, sets-over}
+use Rattle.cbf_answers.proofs.Stores.{sets-append}
+use Rattle.cbf_write.proofs.Puts.{sets-over}
 
 -- ---- octets stored from the first on
 
@@ -65,7 +66,7 @@ pub both-written : (old : List ℕ) (at : ℕ) (a b : List ℕ) (n : ℕ) {m r s
     → (s ≡ at + (m + n)) × (new ≡ sets old at (a ++ b))
 both-written old at a b n {m} {r} e p q =
     let t : r ≡ at + length a = omega arith in
-    (omega arith, q .1 ∙ rw (p .1, t) (sets-append old a b at))
+    (omega arith, q .1 ∙ rw (p .1, t) (sets-append old at a b))
 
 -- ---- the pieces of an entry
 

@@ -24,7 +24,8 @@ use Rattle.cbf_answers.specs.Rooms.{roomFor}
 use Rattle.cbf_catalogue.specs.WriteCatalogue.{heading, cataloguedOr, catalogueOutcome, catalogueText}
 use Rattle.cbf_catalogue.specs.Entries.{noPlace, foundName, finishedBy, entriesOf, entriesIn, EntriesFit}
 use Rattle.cbf_catalogue.specs.declared.entries.Counted.{Counted}
-use Rattle.cbf_write.proofs.Puts.{Put, put-both, sets-append}
+use Rattle.cbf_answers.proofs.Stores.{sets-append}
+use Rattle.cbf_write.proofs.Puts.{Put, put-both}
 use Rattle.cbf_answers.proofs.Rooms.{Says, refusal, no-room, has-room}
 use Rattle.cbf_catalogue.proofs.EntriesLaws.{length-entries}
 use Rattle.cbf_format.specs.Sections as S
@@ -52,7 +53,7 @@ catalogue-short limit file its e short = omega (arith, length-catalogue (section
 
 put-catalogue : (old : List ℕ) (ps : List Placed) {n : ℕ} → n ≡ length ps → sets (sets old 0 (heading n)) 8 (entries ps) ≡ sets old 0 (catalogue ps)
 unfolding octets
-put-catalogue old ps e = rw e (sets-append old (heading (length ps)) (entries ps) 0 ∙ ap (sets old 0) (sym (headed ps)))
+put-catalogue old ps e = rw e (sets-append old 0 (heading (length ps)) (entries ps) ∙ ap (sets old 0) (sym (headed ps)))
 
 -- ---- the outcome, by what counting the entries gave
 

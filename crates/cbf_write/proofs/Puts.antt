@@ -11,6 +11,7 @@ use lib.Dec.{eqb}
 use borrow.Author.Tests.{eqb-true, eqb-false}
 use lib.Seq.{sets, length-sets, set-set, set-comm, take-suc, take-add, take-all, length-take-le, getD-drop}
 use lib.Seq.{getD-set-same, getD-set-other}
+use Rattle.cbf_answers.proofs.Stores.{sets-append}
 
 -- stores keep the length, so two lists that stores make equal are as long as each other
 pub puts-length : (new old a b : List ℕ) (at : ℕ) → sets new at a ≡ sets old at b → length new ≡ length old
@@ -20,17 +21,12 @@ puts-length new old a b at e = sym (length-sets new at a) ∙ ap length e ∙ le
 after-one : (at x : ℕ) (a : List ℕ) → at + length (x ∷ a) ≡ suc at + length a
 after-one at x a = add-suc at (length a) ∙ sym (suc-add at (length a))
 
-pub sets-append : (old a b : List ℕ) (at : ℕ) → sets (sets old at a) (at + length a) b ≡ sets old at (a ++ b)
-sets-append old [] b at = ap (λ (k : ℕ). sets old k b) (add-zero at)
-sets-append old (x ∷ a) b at =
-    ap (λ (k : ℕ). sets (sets (set old at x) (suc at) a) k b) (after-one at x a) ∙ sets-append (set old at x) a b (suc at)
-
 -- the text was written to old from at on: r is the place after it
 abbrev pub Put : List ℕ → ℕ → List ℕ → ℕ → List ℕ → Type 0
 Put old at text r new = (r ≡ at + length text) × (new ≡ sets old at text)
 
 pub put-both : (old : List ℕ) (at : ℕ) (a b : List ℕ) {r s : ℕ} {mid new : List ℕ} → Put old at a r mid → Put mid r b s new → Put old at (a ++ b) s new
-put-both old at a b p q = (omega (arith, length-append a b, p .0, q .0), q .1 ∙ rw (p .1, p .0) (sets-append old a b at))
+put-both old at a b p q = (omega (arith, length-append a b, p .0, q .0), q .1 ∙ rw (p .1, p .0) (sets-append old at a b))
 
 -- the element after a run may be stored before it
 pub last-first : (old a : List ℕ) (at x : ℕ) → sets (set old (at + length a) x) at a ≡ sets old at (a ++ (x ∷ []))
@@ -45,7 +41,7 @@ pub sets-take : (old s : List ℕ) (at i : ℕ) → i < length s → set (sets o
 sets-take old s at i h =
     let e : length (take i s) ≡ i = length-take-le i s (omega arith) in
     ap (λ (k : ℕ). set (sets old at (take i s)) (at + k) (getD s i 0)) (sym e)
-    ∙ sets-append old (take i s) (getD s i 0 ∷ []) at
+    ∙ sets-append old at (take i s) (getD s i 0 ∷ [])
     ∙ ap (λ (l : List ℕ). sets old at l) (sym (take-suc s i 0 h))
 
 -- and of one that copies the part of s from i on
@@ -71,7 +67,7 @@ module _ {old : List ℕ} {at : ℕ} {s out : List ℕ} {i : ℕ} (c : Copied ol
         within = omega arith;
         holds = q ∙ ap (λ (o : List ℕ). sets o (at + i) (take n (drop i s))) (c .holds)
             ∙ ap (λ (k : ℕ). sets (sets old at (take i s)) (at + k) (take n (drop i s))) l
-            ∙ sets-append old (take i s) (take n (drop i s)) at ∙ ap (sets old at) (sym (take-add i n s)) ∙ ap (λ (k : ℕ). sets old at (take k s)) (sym p);
+            ∙ sets-append old at (take i s) (take n (drop i s)) ∙ ap (sets old at) (sym (take-add i n s)) ∙ ap (λ (k : ℕ). sets old at (take k s)) (sym p);
       }
 
   -- out and i under other names
@@ -131,5 +127,5 @@ pub put-if-more : (writing : Bool) (old : List ℕ) (at : ℕ) (a b : List ℕ) 
     → n ≡ at + length a
     → new ≡ sets out n b
     → new ≡ putIf writing old at (a ++ b)
-put-if-more true old at a b on h e q = q ∙ rw (h, e) (sets-append old a b at)
+put-if-more true old at a b on h e q = q ∙ rw (h, e) (sets-append old at a b)
 put-if-more false old at a b on h e q = let z : _≡_ {A = ℕ} 0 1 = cc in absurd (omega arith)
