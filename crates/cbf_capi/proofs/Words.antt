@@ -29,16 +29,16 @@ use Rattle.cbf_format.proofs.FileLaws.{accepted}
 use Rattle.cbf_format.proofs.PlaceLaws.{read-place, read-limit, long-name-place}
 use Rattle.cbf_format.proofs.ListingLaws.{few-sections, listing-short}
 use Rattle.cbf_format.proofs.OctetLaws.{DataAt, data-at, position-in, binary-octets, octet-count, few-elements}
-use Rattle.cbf_sections.specs.SectionCalls.{Result, refusal, value, orMissing, sectionNumbered, ofSection}
-use Rattle.cbf_sections.specs.SectionCalls.{sectionOutcome, readOutcome, OctetsAnswer, octetsFor, octetsOf, Place}
-use Rattle.cbf_sections.specs.SectionCalls.{octetsPlace, octetsOutcome, frameOf, frameOutcome}
-use Rattle.cbf_sections.proofs.SectionCallLaws.{placeOutcome, place-outcome}
+use Rattle.cbf_format.specs.SectionCalls.{Result, refusal, value, orMissing, sectionNumbered, ofSection}
+use Rattle.cbf_format.specs.SectionCalls.{sectionOutcome, readOutcome, OctetsAnswer, octetsFor, octetsOf, Place}
+use Rattle.cbf_format.specs.SectionCalls.{octetsPlace, octetsOutcome, frameOf, frameOutcome}
+use Rattle.cbf_sections.proofs.SectionCallsLaws.{placeOutcome, place-outcome}
 use Rattle.cbf_answers.specs.Rooms.{roomFor}
 use Rattle.cbf_format.specs.House.{replacedFile}
-use Rattle.cbf_replace.specs.ReplaceCalls.{frameFits, roomForFile, replacePacked, replaceFitting, replaceFor}
-use Rattle.cbf_replace.specs.ReplaceCalls.{replaceOutcome}
-use Rattle.cbf_listing.specs.Listing.{listOutcome}
-use Rattle.cbf_catalogue.specs.WriteCatalogue.{cataloguedOr, catalogueOutcome}
+use Rattle.cbf_format.specs.ReplaceCalls.{frameFits, roomForFile, replacePacked, replaceFitting, replaceFor}
+use Rattle.cbf_format.specs.ReplaceCalls.{replaceOutcome}
+use Rattle.cbf_format.specs.ListCalls.{listOutcome}
+use Rattle.cbf_format.specs.CatalogueCalls.{cataloguedOr, catalogueOutcome}
 use Rattle.cbf_catalogue.proofs.WriteCatalogueLaws.{catalogue-short}
 use Rattle.cbf_capi.specs.Words.{packCall, unpackCall, unpackedBy, octetsStart, word}
 use Rattle.cbf_capi.specs.declared.Element.the-variants as E

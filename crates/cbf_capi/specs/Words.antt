@@ -8,7 +8,7 @@ use Rattle.cbf_pixels.specs.declared.ElementType.the-variants.{U8, S8, U16, S16
 use Rattle.cbf_pixels.specs.declared.Compression.the-variants.{Uncompressed, ByteOffset}
 use Rattle.cbf_capi.specs.declared.Element.{Element}
 use Rattle.cbf_capi.specs.declared.Compressed.{Compressed}
-use Rattle.cbf_sections.specs.SectionCalls.{Result, refusal, value, OctetsAnswer}
+use Rattle.cbf_format.specs.SectionCalls.{Result, refusal, value, OctetsAnswer}
 use Rattle.cbf_answers.specs.Answers.{Outcome, gives, refuses}
 use Rattle.cbf_pixels.specs.PixelCalls.{packOutcome, unpackOutcome, pixelsOf, unpackPixels}
 use Rattle.cbf_capi.specs.declared.Element.the-variants as E

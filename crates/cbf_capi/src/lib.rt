@@ -12,10 +12,10 @@ ghost use Rattle.cbf_pixels.specs.Pixels.{packByteOffset};
 ghost use Rattle.cbf_answers.specs.Answers.{refuses, outcome, written};
 ghost use Rattle.cbf_answers.specs.Limits.{lineLimit};
 ghost use Rattle.cbf_format.specs.Files.{read};
-ghost use Rattle.cbf_listing.specs.Listing.{listOutcome, listOutput};
-ghost use Rattle.cbf_catalogue.specs.WriteCatalogue.{catalogueOutcome, catalogueOutput};
-ghost use Rattle.cbf_sections.specs.SectionCalls.{readOutcome, octetsOf, octetsOutcome, frameOutcome, frameOutput};
-ghost use Rattle.cbf_replace.specs.ReplaceCalls.{replaceOutcome, replaceOutput};
+ghost use Rattle.cbf_format.specs.ListCalls.{listOutcome, listOutput};
+ghost use Rattle.cbf_format.specs.CatalogueCalls.{catalogueOutcome, catalogueOutput};
+ghost use Rattle.cbf_format.specs.SectionCalls.{readOutcome, octetsOf, octetsOutcome, frameOutcome, frameOutput};
+ghost use Rattle.cbf_format.specs.ReplaceCalls.{replaceOutcome, replaceOutput};
 ghost use Rattle.cbf_capi.specs.Words.{element, compressed, packCall, unpackCall, unpackedBy, octetsStart};
 ghost use Rattle.cbf_capi.specs.Words.{word};
 

@@ -28,7 +28,7 @@ use Rattle.cbf_catalogue.specs.Entry.{entryFor}
 use Rattle.cbf_catalogue.specs.Entries.{noPlace, withName, finishedBy, foundName, entriesOf, entriesIn}
 use Rattle.cbf_catalogue.specs.Entries.{EntriesFit}
 use Rattle.cbf_catalogue.specs.declared.entries.Counted.{Counted}
-use Rattle.cbf_write.proofs.Puts.{putIf, put-if-length, put-if-none, put-if-off, put-if-more}
+use Rattle.cbf_write.proofs.PutLaws.{putIf, put-if-length, put-if-none, put-if-off, put-if-more}
 use Rattle.cbf_catalogue.proofs.EntryLaws.{length-entry}
 use Rattle.cbf_format.specs.Sections as S
 use Rattle.cbf_format.specs.Files as F

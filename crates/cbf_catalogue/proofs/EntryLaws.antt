@@ -15,7 +15,7 @@ use Rattle.cbf_format.specs.declared.Encoding.{Encoding}
 use Rattle.cbf_format.specs.Catalogue.{labelWidth, compressionNumber, typeNumber, encodingNumber, zeros, label, entry}
 use Rattle.cbf_catalogue.specs.Entry.{fourNumbers}
 use Rattle.cbf_answers.proofs.Stores.{sets-append}
-use Rattle.cbf_write.proofs.Puts.{sets-over}
+use Rattle.cbf_write.proofs.PutLaws.{sets-over}
 
 -- ---- octets stored from the first on
 

@@ -21,11 +21,12 @@ use Rattle.cbf_format.proofs.FileLaws.{accepted}
 use Rattle.cbf_format.proofs.PlaceLaws.{long-name-place}
 use Rattle.cbf_format.proofs.ListingLaws.{few-sections}
 use Rattle.cbf_answers.specs.Rooms.{roomFor}
-use Rattle.cbf_catalogue.specs.WriteCatalogue.{heading, cataloguedOr, catalogueOutcome, catalogueText}
+use Rattle.cbf_catalogue.specs.WriteCatalogue.{heading}
+use Rattle.cbf_format.specs.CatalogueCalls.{cataloguedOr, catalogueOutcome, catalogueText}
 use Rattle.cbf_catalogue.specs.Entries.{noPlace, foundName, finishedBy, entriesOf, entriesIn, EntriesFit}
 use Rattle.cbf_catalogue.specs.declared.entries.Counted.{Counted}
 use Rattle.cbf_answers.proofs.Stores.{sets-append}
-use Rattle.cbf_write.proofs.Puts.{Put, put-both}
+use Rattle.cbf_write.proofs.PutLaws.{Put, put-both}
 use Rattle.cbf_answers.proofs.Rooms.{Says, refusal, no-room, has-room}
 use Rattle.cbf_catalogue.proofs.EntriesLaws.{length-entries}
 use Rattle.cbf_format.specs.Sections as S

@@ -9,7 +9,8 @@ ghost use Prim.Native.Nat.{_≤_};
 ghost use lib.ListN.{length};
 ghost use lib.Seq.{sets};
 ghost use Rattle.cbf_answers.specs.Answers.{outcome};
-ghost use Rattle.cbf_catalogue.specs.WriteCatalogue.{heading, catalogueOutcome, catalogueOutput};
+ghost use Rattle.cbf_catalogue.specs.WriteCatalogue.{heading};
+ghost use Rattle.cbf_format.specs.CatalogueCalls.{catalogueOutcome, catalogueOutput};
 ghost use Rattle.cbf_format.specs.Files as F;
 
 // Writes what stands before the entries.

@@ -1,3 +1,4 @@
+-- The file format, and what the calls on a file answer.
 pub mod Text
 pub mod Lines
 pub mod Headers
@@ -10,3 +11,7 @@ pub mod Files
 pub mod Listing
 pub mod Catalogue
 pub mod House
+pub mod SectionCalls
+pub mod ListCalls
+pub mod CatalogueCalls
+pub mod ReplaceCalls

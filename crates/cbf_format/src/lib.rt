@@ -97,3 +97,9 @@ pub enum Numbered {
     Refused(Refusal),
     As(Section),
 }
+
+// A refusal, or the place of a section's first octet and how many octets there are.
+pub enum OctetsPlace {
+    Refused(Refusal),
+    At(usize, usize),
+}

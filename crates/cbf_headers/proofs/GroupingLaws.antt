@@ -19,7 +19,7 @@ use Rattle.cbf_walk.proofs.ParserLaws.{cut≢ok, ok-val, unbind, uncount, unscr
 use Rattle.cbf_format.specs.Headers.{nameByte, addName, splitColon, someName, continues, malformed, orMalformed}
 use Rattle.cbf_format.specs.Headers.{headerLine, HeaderLines, addLine, moreLines, headerLines, Grouped, group}
 use Rattle.cbf_lines.specs.Text.{Run}
-use Rattle.cbf_headers.specs.SectionHeaders.{Fresh}
+use Rattle.cbf_headers.specs.HeaderParts.{Fresh}
 use Rattle.cbf_values.specs.Value.{in-blanks, joinedFrom, joined, endByte}
 use Rattle.cbf_values.proofs.ValueLaws.{Lacks, differs, end-other, joined-byte, joined-13, joined-10, after-return}
 use Rattle.cbf_values.proofs.ValueLaws.{blanks-over, in-blanks-blank, skip-blank, skip-other}

@@ -19,7 +19,7 @@ use Rattle.cbf_lines.specs.Text.{Run, inClass}
 use Rattle.cbf_lines.specs.Line.{endFrom}
 use Rattle.cbf_lines.specs.declared.text.Class.the-variants.{Not}
 use Rattle.cbf_values.specs.Value.{joined}
-use Rattle.cbf_headers.specs.SectionHeaders.{LineHere, LinesHere, Fresh, HeadersHere, HeaderParts}
+use Rattle.cbf_headers.specs.HeaderParts.{LineHere, LinesHere, Fresh, HeadersHere, HeaderParts}
 use Rattle.cbf_format.proofs.Slices.{slice-take}
 use Rattle.cbf_lines.proofs.TextLaws.{name-no-colon, getD-slice}
 use Rattle.cbf_lines.proofs.LineLaws.{line-good, end-moves}

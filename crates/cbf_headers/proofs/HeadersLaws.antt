@@ -18,7 +18,7 @@ use Rattle.cbf_format.proofs.LineTame.{line-pos, line-tame}
 use Rattle.cbf_answers.specs.declared.Refusal.{Refusal}
 use Rattle.cbf_lines.specs.Line.{lineAt}
 use Rattle.cbf_headers.specs.Headers.{headersAt}
-use Rattle.cbf_headers.specs.SectionHeaders.{refusedHeader, LineHere, LinesHere}
+use Rattle.cbf_headers.specs.HeaderParts.{refusedHeader, LineHere, LinesHere}
 use Rattle.cbf_lines.specs.declared.line.Line.{Line}
 use Rattle.cbf_headers.specs.declared.headers.HeaderEnd.{HeaderEnd}
 use Rattle.cbf_lines.specs.declared.line.Line.the-variants as L

@@ -12,9 +12,12 @@ use Rattle.cbf_format.specs.Text.{trim}
 use Rattle.cbf_format.specs.Headers.{Header, Grouped, group}
 use Rattle.cbf_format.specs.Values.{knownHeaders, headerNamed, valueOf}
 use Rattle.cbf_format.specs.Descriptions.{look, put, judgeHeader, judgeOn, judge}
-use Rattle.cbf_values.specs.Value.{joined, wholeOf, knownOf, InRangeOf}
+use Rattle.cbf_values.specs.Value.{joined, wholeOf}
+use Rattle.cbf_values.specs.Header.{knownOf}
+use Rattle.cbf_values.specs.KnownValue.{InRangeOf}
 use Rattle.cbf_headers.specs.Found.{oneMore, foundOf, fieldOf, Stored, InRange}
-use Rattle.cbf_headers.specs.SectionHeaders.{HeadersHere, HeaderParts, judgedAt}
+use Rattle.cbf_headers.specs.HeaderParts.{HeadersHere, HeaderParts}
+use Rattle.cbf_headers.specs.Judge.{judgedAt}
 use Rattle.cbf_headers.specs.declared.found.Found.{Found}
 use Rattle.cbf_values.specs.declared.header.Name.{Name}
 use Rattle.cbf_values.specs.declared.header.Name.the-variants.{Known, Other}

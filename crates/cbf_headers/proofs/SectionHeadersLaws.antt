@@ -16,7 +16,9 @@ use Rattle.cbf_answers.specs.declared.Refusal.{Refusal}
 use Rattle.cbf_headers.specs.Headers.{headersAt}
 use Rattle.cbf_headers.specs.Found.{foundOf}
 use Rattle.cbf_headers.specs.Describe.{describedBy}
-use Rattle.cbf_headers.specs.SectionHeaders.{LinesHere, Fresh, HeadersHere, judgedAt, headersReadAt}
+use Rattle.cbf_headers.specs.HeaderParts.{LinesHere, Fresh, HeadersHere}
+use Rattle.cbf_headers.specs.Judge.{judgedAt}
+use Rattle.cbf_headers.specs.SectionHeaders.{headersReadAt}
 use Rattle.cbf_headers.specs.declared.describe.Described.{Described}
 use Rattle.cbf_headers.specs.declared.describe.Described.the-variants.{Missing, Disagree, As}
 use Rattle.cbf_headers.specs.declared.judge.Judged.{Judged}

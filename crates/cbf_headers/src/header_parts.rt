@@ -3,7 +3,7 @@ use cbf_lines::line;
 use cbf_lines::text;
 use cbf_lines::text::Class;
 ghost use Prim.Native.Nat.{_<_};
-ghost use Rattle.cbf_headers.specs.SectionHeaders.{HeadersHere, HeaderParts};
+ghost use Rattle.cbf_headers.specs.HeaderParts.{HeadersHere, HeaderParts};
 
 // Where the header's name ends, where its value ends, and where the next header or the empty line is.
 pub struct Parts {

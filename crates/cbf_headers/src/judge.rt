@@ -10,7 +10,8 @@ ghost use mathlib.Core.List.{[]};
 ghost use Rattle.cbf_format.specs.Headers.{group};
 ghost use Rattle.cbf_format.specs.Descriptions.{judge as judgeOf};
 ghost use Rattle.cbf_headers.specs.Found.{InRange};
-ghost use Rattle.cbf_headers.specs.SectionHeaders.{HeadersHere, judgedAt};
+ghost use Rattle.cbf_headers.specs.HeaderParts.{HeadersHere};
+ghost use Rattle.cbf_headers.specs.Judge.{judgedAt};
 
 // Whether a header is refused, since it is repeated or has a bad value, and its place; else the values.
 pub struct Judged {

@@ -1,4 +1,4 @@
-pub mod LetterLaws
+pub mod SixesLaws
 pub mod OctetsLaws
-pub mod TextLetters
+pub mod LettersLaws
 pub mod SectionTexts

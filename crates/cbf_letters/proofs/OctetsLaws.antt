@@ -20,7 +20,7 @@ use Rattle.cbf_lines.proofs.ClosingLaws.{slice-then}
 use Rattle.cbf_format.proofs.Base64Laws.{symbol-letter}
 use Rattle.cbf_letters.specs.Letters.{addSix, sixes, groupOctets, sixesOctets}
 use Rattle.cbf_letters.specs.Octets.{LettersOnly, SixesOnly, NextLetterSays, textOctets, Decodes}
-use Rattle.cbf_letters.proofs.LetterLaws.{sixes-append, joined-append, joined-length}
+use Rattle.cbf_letters.proofs.SixesLaws.{sixes-append, joined-append, joined-length}
 
 -- ---- groups one after another
 

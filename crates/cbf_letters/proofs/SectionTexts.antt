@@ -13,8 +13,8 @@ use Rattle.cbf_format.proofs.Slices.{slice-take}
 use Rattle.cbf_format.proofs.OctetLaws.{DataAt, position-in, octet-count}
 use Rattle.cbf_letters.specs.Octets.{textByte, textOctets, TextOf}
 use Rattle.cbf_letters.specs.Letters.{sixes, sixesOctets}
-use Rattle.cbf_letters.proofs.LetterLaws.{base64-octets}
-use Rattle.cbf_letters.proofs.TextLetters.{base64-good}
+use Rattle.cbf_letters.proofs.SixesLaws.{base64-octets}
+use Rattle.cbf_letters.proofs.LettersLaws.{base64-good}
 
 pub text-of : {limit : ℕ} {file : List ℕ} {p : Placed} → DataAt limit file p → p .section .description .encoding ≡ Base64
     → TextOf file p (p .boundary + p .section .width - 31)

@@ -8,7 +8,7 @@ use Rattle.cbf_format.specs.Sections.{Section}
 use Rattle.cbf_format.specs.Files.{State}
 use Rattle.cbf_format.specs.Listing.{listing}
 use Rattle.cbf_answers.specs.Rooms.{roomFor}
-use Rattle.cbf_listing.specs.Listing.{shown}
+use Rattle.cbf_format.specs.ListCalls.{shown}
 
 -- "Input over 65,536 bytes: `refused 4 at 0`"; else the listing of the file, or the line of its refusal. The flag says
 -- that the input goes on behind what was read.

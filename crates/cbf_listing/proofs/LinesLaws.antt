@@ -22,7 +22,7 @@ use Rattle.cbf_listing.specs.SectionLine.{lineFor}
 use Rattle.cbf_listing.specs.Lines.{linesOf, linesIn, Fits}
 use Rattle.cbf_listing.specs.declared.lines.Measured.{Measured}
 use Rattle.cbf_listing.specs.declared.lines.Measured.the-variants.{Refused, Length}
-use Rattle.cbf_write.proofs.Puts.{Put, putIf, put-if-length, put-if-none, put-if-off, put-if-more}
+use Rattle.cbf_write.proofs.PutLaws.{Put, putIf, put-if-length, put-if-none, put-if-off, put-if-more}
 use Rattle.cbf_format.specs.Sections as S
 use Rattle.cbf_format.specs.Files as F
 use Rattle.cbf_reader.specs.declared.walk.NextSection.the-variants as W

@@ -13,10 +13,10 @@ use Rattle.cbf_format.specs.Text.{bytes}
 use Rattle.cbf_format.specs.Listing.{printed, listing}
 use Rattle.cbf_answers.specs.Rooms.{roomFor}
 use Rattle.cbf_answers.proofs.Rooms.{Says, refusal, no-room, has-room}
-use Rattle.cbf_listing.specs.Listing.{listOutcome, shown}
+use Rattle.cbf_format.specs.ListCalls.{listOutcome, shown}
 use Rattle.cbf_listing.specs.Lines.{linesOf, linesIn, Fits}
 use Rattle.cbf_listing.specs.declared.lines.Measured.the-variants.{Refused, Length}
-use Rattle.cbf_write.proofs.Puts.{Put, put-both}
+use Rattle.cbf_write.proofs.PutLaws.{Put, put-both}
 use Rattle.cbf_reader.proofs.LoopLaws.{refused-off}
 use Rattle.cbf_format.specs.Sections as S
 use Rattle.cbf_format.specs.Files as F

@@ -10,7 +10,7 @@ use Rattle.cbf_pixels.specs.declared.Compression.{Compression}
 use Rattle.cbf_format.specs.Listing.{printed, compressionName, typeName, named, spaced, sectionText}
 use Rattle.cbf_format.proofs.Slices.{slice-part}
 use Rattle.cbf_listing.specs.SectionLine.{figures}
-use Rattle.cbf_write.proofs.Puts.{Put}
+use Rattle.cbf_write.proofs.PutLaws.{Put}
 
 -- ---- the room for a text, and for what follows it
 

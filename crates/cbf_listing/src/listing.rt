@@ -9,7 +9,7 @@ ghost use Rattle.cbf_walk.specs.Reading.{refused};
 ghost use Rattle.cbf_answers.specs.Answers.{outcome};
 ghost use Rattle.cbf_format.specs.Listing.{listing};
 ghost use Rattle.cbf_answers.specs.Rooms.{roomFor, roomOutput};
-ghost use Rattle.cbf_listing.specs.Listing.{listOutcome, shown, listOutput};
+ghost use Rattle.cbf_format.specs.ListCalls.{listOutcome, shown, listOutput};
 ghost use Rattle.cbf_format.specs.Files as F;
 
 // Writes the listing of the file, whose text lines have at most limit characters, to out: reading's refusal, 15, or

@@ -26,12 +26,12 @@ use Rattle.cbf_format.specs.Listing.{Placed, sections, numbered}
 use Rattle.cbf_format.proofs.HouseSections.{housedSection}
 use Rattle.cbf_format.proofs.LineTame.{and-true}
 use Rattle.cbf_format.proofs.ReplacementLaws.{SpanAt, span-at, packed-fits, Next, Orders, orders}
-use Rattle.cbf_sections.specs.SectionCalls.{value, orMissing, sectionNumbered, frameOf, frameFor, frameOutcome}
-use Rattle.cbf_sections.specs.SectionCalls.{framePixels}
-use Rattle.cbf_sections.proofs.SectionCallLaws.{section-answer}
+use Rattle.cbf_format.specs.SectionCalls.{value, orMissing, sectionNumbered, frameOf, frameFor, frameOutcome}
+use Rattle.cbf_format.specs.SectionCalls.{framePixels}
+use Rattle.cbf_sections.proofs.SectionCallsLaws.{section-answer}
 use Rattle.cbf_answers.specs.Rooms.{roomFor}
-use Rattle.cbf_replace.specs.ReplaceCalls.{frameFits, roomForFile, replacePacked, replaceFitting, replaceOutcome}
-use Rattle.cbf_replace.specs.ReplaceCalls.{replacedBy}
+use Rattle.cbf_format.specs.ReplaceCalls.{frameFits, roomForFile, replacePacked, replaceFitting, replaceOutcome}
+use Rattle.cbf_format.specs.ReplaceCalls.{replacedBy}
 use Rattle.cbf_orders.specs.Orders.{replaceCall, replacementOf, OrderOutcome, secondCall, orderOf}
 use Rattle.cbf_orders.specs.Orders.{secondWritten, Premises, Room, CallSays, SecondSays, ReadsBack}
 use Rattle.cbf_orders.specs.Orders.{SpansKeptFrom, one, both, TwoOrders}

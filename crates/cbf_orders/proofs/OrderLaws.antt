@@ -20,12 +20,12 @@ use Rattle.cbf_format.specs.Sections.{Section}
 use Rattle.cbf_format.specs.Files.{State, read}
 use Rattle.cbf_format.specs.Listing.{Placed, sections, numbered}
 use Rattle.cbf_format.specs.House.{replacedFile}
-use Rattle.cbf_sections.specs.SectionCalls.{orMissing, sectionNumbered, sectionOutcome}
+use Rattle.cbf_format.specs.SectionCalls.{orMissing, sectionNumbered, sectionOutcome}
 use Rattle.cbf_answers.specs.Rooms.{roomFor}
 use Rattle.cbf_orders.specs.Orders.{replaceCall, replacementOf, OrderOutcome, secondCall, orderOf}
 use Rattle.cbf_orders.specs.Orders.{secondWritten, OrderSays, Premises, TwoOrders}
 use Rattle.cbf_orders.proofs.Demand3.{demand-3}
-use Rattle.cbf_replace.specs.ReplaceCalls as C
+use Rattle.cbf_format.specs.ReplaceCalls as C
 
 -- ---- a call that gave a file
 

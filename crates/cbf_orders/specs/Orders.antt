@@ -19,8 +19,8 @@ use Rattle.cbf_answers.specs.Limits.{lineLimit, fileLimit}
 use Rattle.cbf_format.specs.Files.{Tree, read}
 use Rattle.cbf_format.specs.Listing.{Placed, sections, numbered}
 use Rattle.cbf_format.specs.House.{replacedFile, replacedBoth}
-use Rattle.cbf_sections.specs.SectionCalls.{frameOutcome, framePixels}
-use Rattle.cbf_replace.specs.ReplaceCalls.{frameFits, replaceOutcome, replacedBy}
+use Rattle.cbf_format.specs.SectionCalls.{frameOutcome, framePixels}
+use Rattle.cbf_format.specs.ReplaceCalls.{frameFits, replaceOutcome, replacedBy}
 use Rattle.cbf_orders.specs.declared.Second.{Second}
 use Rattle.cbf_orders.specs.declared.Second.the-variants.{NotMade, Made}
 use Rattle.cbf_orders.specs.declared.Order.{Order}

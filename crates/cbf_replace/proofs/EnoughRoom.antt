@@ -30,11 +30,11 @@ use Rattle.cbf_format.proofs.ListingLaws.{digits-short}
 use Rattle.cbf_format.proofs.PlaceLaws.{read-place}
 use Rattle.cbf_format.proofs.HouseSections.{length-house}
 use Rattle.cbf_format.proofs.ReplacementLaws.{SpanAt, span-at}
-use Rattle.cbf_sections.specs.SectionCalls.{orMissing, sectionNumbered, sectionOutcome}
+use Rattle.cbf_format.specs.SectionCalls.{orMissing, sectionNumbered, sectionOutcome}
 use Rattle.cbf_answers.specs.Rooms.{roomFor}
-use Rattle.cbf_replace.specs.HeadTexts.{headText, lineText}
-use Rattle.cbf_replace.specs.ReplaceCalls.{frameFits, roomForFile, replacePacked, replaceFitting, replaceFor}
-use Rattle.cbf_replace.specs.ReplaceCalls.{replaceOutcome, newFile, replacedBy}
+use Rattle.cbf_replace.specs.Head.{headText, lineText}
+use Rattle.cbf_format.specs.ReplaceCalls.{frameFits, roomForFile, replacePacked, replaceFitting, replaceFor}
+use Rattle.cbf_format.specs.ReplaceCalls.{replaceOutcome, newFile, replacedBy}
 use Rattle.cbf_replace.proofs.HeadLaws.{no-line, line-length, head-length, type-short}
 
 -- ---- how long the new file is at most

@@ -16,8 +16,8 @@ use Rattle.cbf_format.specs.Listing.{digitsOf, sections, numbered}
 use Rattle.cbf_format.specs.House.{endedLines, houseLines, house, replacedFile}
 use Rattle.cbf_format.proofs.Examples.{sample}
 use Rattle.cbf_answers.specs.Rooms.{roomFor}
-use Rattle.cbf_replace.specs.ReplaceCalls.{frameFits, roomForFile, replacePacked, replaceFitting}
-use Rattle.cbf_replace.specs.ReplaceCalls.{replaceOutcome, replacedBy}
+use Rattle.cbf_format.specs.ReplaceCalls.{frameFits, roomForFile, replacePacked, replaceFitting, replaceOutcome}
+use Rattle.cbf_format.specs.ReplaceCalls.{replacedBy}
 use Rattle.cbf_pixels.specs.Octets as O
 
 pub sample-replaced : replacedBy sample (read 80 sample) 1 (pos 5 ∷ pos 205 ∷ []) ≡ sample

@@ -15,8 +15,8 @@ use Rattle.cbf_format.specs.Sections.{opening, marker}
 use Rattle.cbf_format.specs.Listing.{printed}
 use Rattle.cbf_format.specs.Values.{typeWords}
 use Rattle.cbf_format.specs.House.{ended, endedLines, numberLine, houseLines}
-use Rattle.cbf_write.proofs.Puts.{Put, put-both}
-use Rattle.cbf_replace.specs.HeadTexts.{headText, lineText}
+use Rattle.cbf_write.proofs.PutLaws.{Put, put-both}
+use Rattle.cbf_replace.specs.Head.{headText, lineText}
 
 -- ---- pieces, written one after the other
 

@@ -1,6 +1,6 @@
 -- The laws that the proofs of the functions use.
 pub mod HeadLaws
 pub mod NewFileLaws
-pub mod ReplaceLaws
+pub mod ReplaceFrameLaws
 pub mod EnoughRoom
 pub mod Examples

@@ -20,9 +20,9 @@ use Rattle.cbf_format.specs.House.{ended, endedLines, houseLines, house}
 use Rattle.cbf_format.specs.declared.Section.{Section}
 use Rattle.cbf_answers.specs.Rooms.{roomFor}
 use Rattle.cbf_answers.proofs.Rooms.{Says, refusal, no-room, has-room}
-use Rattle.cbf_replace.specs.ReplaceCalls.{frameFits, roomForFile, replacePacked, replaceFitting}
-use Rattle.cbf_replace.specs.HeadTexts.{headText}
-use Rattle.cbf_replace.specs.NewFiles.{fileWith, SpanIn, Packed}
+use Rattle.cbf_format.specs.ReplaceCalls.{frameFits, roomForFile, replacePacked, replaceFitting}
+use Rattle.cbf_replace.specs.Head.{headText}
+use Rattle.cbf_replace.specs.NewFile.{fileWith, SpanIn, Packed}
 use Rattle.cbf_replace.proofs.HeadLaws.{joined}
 
 -- ---- pieces

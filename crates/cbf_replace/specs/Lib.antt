@@ -1,4 +1,3 @@
--- What replacement answers, and the file that it gives.
-pub mod ReplaceCalls
-pub mod HeadTexts
-pub mod NewFiles
+-- The head of a section in house form, and the new file: for the contracts of the private functions.
+pub mod Head
+pub mod NewFile

@@ -10,7 +10,7 @@ ghost use lib.ListN.{length};
 ghost use lib.Seq.{sets};
 ghost use Rattle.cbf_format.specs.Values.{typeWords};
 ghost use Rattle.cbf_format.specs.Descriptions.{optional};
-ghost use Rattle.cbf_replace.specs.HeadTexts.{headText, lineText};
+ghost use Rattle.cbf_replace.specs.Head.{headText, lineText};
 
 fn type_length(kind: ElementType) -> usize
     ensures { λ r. ⌜ r ≡ length (typeWords kind) ⌝ }

@@ -11,8 +11,8 @@ ghost use lib.ListN.{length};
 ghost use lib.Seq.{sets};
 ghost use Rattle.cbf_pixels.specs.Pixels.{packByteOffset};
 ghost use Rattle.cbf_answers.specs.Answers.{outcome, written};
-ghost use Rattle.cbf_replace.specs.ReplaceCalls.{replacePacked};
-ghost use Rattle.cbf_replace.specs.NewFiles.{fileWith, SpanIn, Packed};
+ghost use Rattle.cbf_format.specs.ReplaceCalls.{replacePacked};
+ghost use Rattle.cbf_replace.specs.NewFile.{fileWith, SpanIn, Packed};
 
 // Writes the new file, each byte once.
 fn put_file(file: &[u8], s: Section, size: usize, frame: &[i64], out: &mut [u8])

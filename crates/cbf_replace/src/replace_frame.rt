@@ -9,8 +9,8 @@ ghost use mathlib.Core.Path.{_≡_};
 ghost use lib.ListN.{length};
 ghost use Rattle.cbf_pixels.specs.Pixels.{packByteOffset};
 ghost use Rattle.cbf_answers.specs.Answers.{outcome, written};
-ghost use Rattle.cbf_replace.specs.ReplaceCalls.{replaceFitting, replaceOutcome, replaceOutput};
-ghost use Rattle.cbf_replace.specs.NewFiles.{fileWith, SpanIn};
+ghost use Rattle.cbf_format.specs.ReplaceCalls.{replaceFitting, replaceOutcome, replaceOutput};
+ghost use Rattle.cbf_replace.specs.NewFile.{fileWith, SpanIn};
 ghost use Rattle.cbf_format.specs.Files as F;
 
 // Replaces the frame of a section: 14, 16, 15, or the length of the new file.

@@ -33,8 +33,7 @@ use Rattle.cbf_format.proofs.OctetLaws.{DataAt, data-at, binary-octets}
 use Rattle.cbf_format.proofs.ReplacementLaws.{SpanAt, span-at}
 use Rattle.cbf_letters.specs.Letters.{addSix, sixes, sixesOctets}
 use Rattle.cbf_letters.proofs.SectionTexts.{text-of}
-use Rattle.cbf_sections.specs.SectionCalls.{orMissing, sectionNumbered, sectionOutcome, frameOf, frameFor}
-use Rattle.cbf_sections.specs.SectionCalls.{frameOutcome}
+use Rattle.cbf_format.specs.SectionCalls.{orMissing, sectionNumbered, sectionOutcome, frameOf, frameFor, frameOutcome}
 use Rattle.cbf_format.specs.Sections as S
 use Rattle.cbf_format.specs.Files as F
 

@@ -1,3 +1,3 @@
 -- The laws of the definitions in specs/.
-pub mod SectionCallLaws
+pub mod SectionCallsLaws
 pub mod EnoughRoom

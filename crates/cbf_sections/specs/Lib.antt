@@ -1,3 +1,2 @@
--- What the calls that count a file's sections or ask for one of them answer.
-pub mod SectionCalls
-pub mod FramePlaces
+-- Where the octets of a section are: for the contracts of the private functions.
+pub mod Frame

@@ -10,8 +10,8 @@ ghost use lib.ListN.{length};
 ghost use Rattle.cbf_format.specs.Listing.{Placed};
 ghost use Rattle.cbf_answers.specs.Answers.{outcome};
 ghost use Rattle.cbf_pixels.specs.PixelCalls.{unpackOutcome, unpackOutput};
-ghost use Rattle.cbf_sections.specs.SectionCalls.{placedAt, frameOutcome, frameOutput};
-ghost use Rattle.cbf_sections.specs.FramePlaces.{FrameOf};
+ghost use Rattle.cbf_format.specs.SectionCalls.{placedAt, frameOutcome, frameOutput};
+ghost use Rattle.cbf_sections.specs.Frame.{FrameOf};
 ghost use Rattle.cbf_format.specs.Files as F;
 
 // 13 is at the section's first octet.

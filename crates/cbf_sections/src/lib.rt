@@ -4,7 +4,6 @@ mod frame;
 mod section_calls;
 
 pub use frame::unpack;
-pub use section_calls::OctetsPlace;
 pub use section_calls::octets;
 pub use section_calls::octets_answer;
 pub use section_calls::octets_at;

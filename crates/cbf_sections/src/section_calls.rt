@@ -4,11 +4,12 @@ use cbf_answers::Answer;
 use cbf_answers::Refusal;
 use cbf_format::Encoding;
 use cbf_format::Numbered;
+use cbf_format::OctetsPlace;
 use cbf_reader::Count;
 ghost use mathlib.Core.Path.{_≡_};
 ghost use Rattle.cbf_answers.specs.Answers.{outcome};
-ghost use Rattle.cbf_sections.specs.SectionCalls.{readOutcome, numberedFields, sectionFields, octetsOf};
-ghost use Rattle.cbf_sections.specs.SectionCalls.{octetsPlace, octetsOutcome, octetsPart, placeOf};
+ghost use Rattle.cbf_format.specs.SectionCalls.{readOutcome, numberedFields, sectionFields, octetsOf, octetsPlace};
+ghost use Rattle.cbf_format.specs.SectionCalls.{octetsOutcome, octetsPart, placeOf};
 ghost use Rattle.cbf_format.specs.Files as F;
 
 // How many sections the file has: reading's refusal, or their number.
@@ -29,12 +30,6 @@ pub fn section(file: &[u8], limit: usize, number: usize) -> Numbered
         number ⌝ }
 {
     cbf_reader::numbered_section(file, limit, number)
-}
-
-// A refusal, or the place of a section's first octet and how many octets there are.
-pub enum OctetsPlace {
-    Refused(Refusal),
-    At(usize, usize),
 }
 
 // Where the octets of a BINARY section are: reading's refusal, 12, 18, or their place.

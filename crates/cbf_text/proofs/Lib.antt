@@ -1,3 +1,3 @@
 -- The laws of the definitions in specs/.
-pub mod WindowLaws
-pub mod PassLaws
+pub mod TextWindowLaws
+pub mod ByteOffsetTextLaws

@@ -12,7 +12,7 @@ ghost use Rattle.cbf_pixels.specs.Pixels.{within, least, greatest, unpackByteOf
 ghost use Rattle.cbf_pixels.specs.PixelCalls.{isSome};
 ghost use Rattle.cbf_unpack.specs.Fill.{Fillable};
 ghost use Rattle.cbf_letters.specs.Octets.{GoodText, textOctets};
-ghost use Rattle.cbf_text.specs.TextParts.{PartSays, passOutput};
+ghost use Rattle.cbf_text.specs.ByteOffsetText.{PartSays, passOutput};
 
 // The pixels of the octets that are there, validated, or written to out from k on.
 fn part(

@@ -18,8 +18,8 @@ use Rattle.cbf_format.specs.declared.Conversion.{Conversion}
 use Rattle.cbf_format.specs.declared.Conversion.the-variants.{Unseen, Seen, Wrong}
 use Rattle.cbf_lines.specs.Text.{Run, inClass}
 use Rattle.cbf_lines.specs.declared.text.Class.the-variants.{Not}
-use Rattle.cbf_values.specs.Value.{Within, in-text, joinedFrom, joined, blankOrEnd, partThen, laterParts}
-use Rattle.cbf_values.specs.Value.{someOf}
+use Rattle.cbf_values.specs.Value.{Within, in-text, joinedFrom, joined, blankOrEnd}
+use Rattle.cbf_values.specs.ContentType.{partThen, laterParts, someOf}
 use Rattle.cbf_values.proofs.ValueLaws.{Adds, itself, a-space, nothing, step, split-from, joined-empty}
 
 -- ---- where joining splits

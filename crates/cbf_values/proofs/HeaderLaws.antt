@@ -15,7 +15,8 @@ use Rattle.cbf_format.specs.declared.KnownHeader.{KnownHeader}
 use Rattle.cbf_format.specs.declared.KnownHeader.the-variants.{TransferEncoding}
 use Rattle.cbf_format.specs.Text.{lowers, same}
 use Rattle.cbf_format.specs.Values.{oneOf, nameOf, knownHeaders, headerNamed, addQuoted, endQuote, unquote}
-use Rattle.cbf_values.specs.Value.{joined, joinedFrom, knownOf, Trimmed}
+use Rattle.cbf_values.specs.Value.{joined, joinedFrom, Trimmed}
+use Rattle.cbf_values.specs.Header.{knownOf}
 use Rattle.cbf_values.proofs.ValueLaws.{not-end, joined-next, joined-back}
 
 -- the words that name known headers

@@ -17,7 +17,8 @@ use Rattle.cbf_format.specs.declared.Conversion.the-variants.{Unseen, Seen, Wro
 use Rattle.cbf_format.specs.Text.{bytes, lowers, same}
 use Rattle.cbf_format.specs.Values.{decimalNumber, between, oneOf, unquote, quotedOneOf, parts, withPart, conversions}
 use Rattle.cbf_format.specs.Values.{contentType, typeNames, valueOf}
-use Rattle.cbf_values.specs.Value.{wholeOf, InRangeOf}
+use Rattle.cbf_values.specs.Value.{wholeOf}
+use Rattle.cbf_values.specs.KnownValue.{InRangeOf}
 use Rattle.cbf_values.specs.declared.value.Whole.{Whole}
 
 -- a number, where there is one, is at least the first bound and below the second

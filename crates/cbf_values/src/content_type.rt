@@ -16,7 +16,8 @@ ghost use Rattle.cbf_format.specs.Values.{withPart, quotedOneOf, unquote, conte
 ghost use Rattle.cbf_format.specs.Text.{bytes, trim};
 ghost use Rattle.cbf_lines.specs.Text.{Run, inClass};
 ghost use Rattle.cbf_lines.specs.declared.text.Class.the-variants.{Not};
-ghost use Rattle.cbf_values.specs.Value.{joined, wholeOf, someOf, PartAt, laterParts};
+ghost use Rattle.cbf_values.specs.Value.{joined, wholeOf};
+ghost use Rattle.cbf_values.specs.ContentType.{someOf, PartAt, laterParts};
 
 // The place of the first `=` of a part, or its end.
 fn equals(file: &[u8], from: usize, to: usize) -> usize

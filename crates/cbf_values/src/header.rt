@@ -10,7 +10,8 @@ ghost use lib.ListN.{length};
 ghost use lib.Seq.{slice};
 ghost use Rattle.cbf_format.specs.Text.{bytes};
 ghost use Rattle.cbf_format.specs.Values.{oneOf, quotedOneOf, unquote, knownHeaders, headerNamed, typeNames};
-ghost use Rattle.cbf_values.specs.Value.{joined, wholeOf, knownOf, Trimmed, unquotedAt};
+ghost use Rattle.cbf_values.specs.Value.{joined, wholeOf, Trimmed};
+ghost use Rattle.cbf_values.specs.Header.{knownOf, unquotedAt};
 
 // The name of a header: of a known one, or of another.
 pub enum Name {

@@ -12,7 +12,8 @@ ghost use lib.ListN.{length};
 ghost use lib.Seq.{slice};
 ghost use Rattle.cbf_format.specs.Text.{trim};
 ghost use Rattle.cbf_format.specs.Values.{valueOf};
-ghost use Rattle.cbf_values.specs.Value.{joined, wholeOf, InRangeOf};
+ghost use Rattle.cbf_values.specs.Value.{joined, wholeOf};
+ghost use Rattle.cbf_values.specs.KnownValue.{InRangeOf};
 
 // The value, from `from` up to to, of a known header.
 pub fn known_value(file: &[u8], known: KnownHeader, from: usize, to: usize) -> Whole

@@ -1,3 +1,3 @@
 -- The laws of writing to lent memory.
-pub mod Puts
-pub mod DigitLaws
+pub mod PutLaws
+pub mod DigitsLaws

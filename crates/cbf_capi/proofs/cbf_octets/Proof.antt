@@ -1,7 +1,7 @@
 -- cbf_octets returns the word of the number of octets, or of the refusal, and stores where they start. Assumes nothing.
 use mathlib.Core.Path.{refl, sym, ap, _∙_}
 use borrow.Author.Needs.{needs}
-use Rattle.cbf_sections.specs.SectionCalls.{placeOf}
+use Rattle.cbf_format.specs.SectionCalls.{placeOf}
 use Rattle.cbf_capi.proofs.Words.{place-halves, octets-say}
 use Rattle.cbf_capi.proofs.cbf_octets.Statement.{statement}
 use Rattle.cbf_capi.proofs.cbf_octets.Tie as tie

@@ -5,7 +5,7 @@ use native.Mathlib.Omega.{arith}
 use lib.ListN.{length}
 use denote.Ref.{now}
 use borrow.Author.Needs.{needs}
-use Rattle.cbf_headers.specs.SectionHeaders.{HeadersHere}
+use Rattle.cbf_headers.specs.HeaderParts.{HeadersHere}
 use Rattle.cbf_headers.proofs.HeaderPartsLaws.{Walked, before-end, walk-first, walk-more, walk-stop, walk-end}
 use Rattle.cbf_headers.proofs.header_parts.header_parts.Statement.{statement}
 use Rattle.cbf_headers.proofs.header_parts.header_parts.Tie as tie

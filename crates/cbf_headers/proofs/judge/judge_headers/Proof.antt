@@ -5,7 +5,7 @@ use native.Mathlib.Omega.{arith}
 use lib.ListN.{length}
 use denote.Ref.{now}
 use borrow.Author.Needs.{needs}
-use Rattle.cbf_headers.specs.SectionHeaders.{HeadersHere, HeaderParts}
+use Rattle.cbf_headers.specs.HeaderParts.{HeadersHere, HeaderParts}
 use Rattle.cbf_headers.proofs.JudgeLaws.{Judging, headers-inside, number-range, judging-none, judging-all}
 use Rattle.cbf_headers.proofs.JudgeLaws.{judging-other, judging-repeated, judging-bad, judging-number}
 use Rattle.cbf_headers.proofs.judge.judge_headers.Statement.{statement}

@@ -4,7 +4,7 @@ use mathlib.Core.Path.{_≡_}
 use Prim.Native.Nat.{_-_, _%_, _≤_}
 use native.Mathlib.Omega.{arith}
 use Rattle.cbf_letters.specs.Octets.{LettersOnly}
-use Rattle.cbf_letters.proofs.TextLetters.{each-then}
+use Rattle.cbf_letters.proofs.LettersLaws.{each-then}
 use Rattle.cbf_letters.proofs.letters.after_letters.Statement.{statement}
 use Rattle.cbf_letters.proofs.letters.after_letters.Tie as tie
 

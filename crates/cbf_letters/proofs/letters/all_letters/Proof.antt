@@ -6,7 +6,7 @@ use mathlib.Core.Logic.{⊎-elim}
 use Prim.Native.Nat.{_+_, _-_, _≤_}
 use native.Mathlib.Omega.{arith}
 use Rattle.cbf_letters.specs.Octets.{LettersOnly}
-use Rattle.cbf_letters.proofs.TextLetters.{each-next}
+use Rattle.cbf_letters.proofs.LettersLaws.{each-next}
 use Rattle.cbf_letters.proofs.letters.all_letters.Statement.{statement}
 use Rattle.cbf_letters.proofs.letters.all_letters.Tie as tie
 

@@ -1,7 +1,7 @@
 -- `letters::letter` meets its contract: a letter of good text is at least 43 and not the pad. Assumes nothing.
 use borrow.Author.Tests.{le-leb, lt-leb}
 use native.Mathlib.Omega.{arith}
-use Rattle.cbf_letters.proofs.TextLetters.{letter-test}
+use Rattle.cbf_letters.proofs.LettersLaws.{letter-test}
 use Rattle.cbf_letters.proofs.letters.letter.Statement.{statement}
 use Rattle.cbf_letters.proofs.letters.letter.Tie as tie
 

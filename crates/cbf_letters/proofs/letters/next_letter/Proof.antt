@@ -5,7 +5,7 @@ use mathlib.Core.Logic.{inl, inr}
 use borrow.Author.Needs.{needs}
 use native.Mathlib.Omega.{arith}
 use lib.ListN.{getD}
-use Rattle.cbf_letters.proofs.TextLetters.{letter-small, sixes-empty, sixes-letter}
+use Rattle.cbf_letters.proofs.LettersLaws.{letter-small, sixes-empty, sixes-letter}
 use Rattle.cbf_letters.proofs.letters.next_letter.Statement.{statement}
 use Rattle.cbf_letters.proofs.letters.next_letter.Tie as tie
 

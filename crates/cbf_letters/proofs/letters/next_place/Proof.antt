@@ -4,7 +4,7 @@ use Prim.Native.Nat.{_-_, _≤_}
 use native.Mathlib.Omega.{arith}
 use lib.Seq.{slice}
 use Rattle.cbf_letters.specs.Letters.{sixes}
-use Rattle.cbf_letters.proofs.TextLetters.{sixes-other}
+use Rattle.cbf_letters.proofs.LettersLaws.{sixes-other}
 use Rattle.cbf_letters.proofs.letters.next_place.Statement.{statement}
 use Rattle.cbf_letters.proofs.letters.next_place.Tie as tie
 

@@ -6,7 +6,7 @@ use borrow.Author.Tests.{lt-ltb, le-ltb}
 use native.Mathlib.Omega.{arith}
 use Rattle.cbf_format.specs.Base64.{symbol}
 use Rattle.cbf_format.specs.declared.Symbol.the-variants.{Letter}
-use Rattle.cbf_letters.proofs.TextLetters.{lowered, by-test, letter-number}
+use Rattle.cbf_letters.proofs.LettersLaws.{lowered, by-test, letter-number}
 use Rattle.cbf_letters.proofs.letters.number_of.Statement.{statement}
 use Rattle.cbf_letters.proofs.letters.number_of.Tie as tie
 

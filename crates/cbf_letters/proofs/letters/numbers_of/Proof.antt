@@ -6,7 +6,7 @@ use native.Mathlib.Omega.{arith}
 use lib.ListN.{length, length-set}
 use lib.Seq.{sets, slice}
 use Rattle.cbf_letters.specs.Letters.{sixes}
-use Rattle.cbf_letters.proofs.TextLetters.{sixes-empty, finished, finished-next}
+use Rattle.cbf_letters.proofs.LettersLaws.{sixes-empty, finished, finished-next}
 use Rattle.cbf_letters.proofs.letters.numbers_of.Statement.{statement}
 use Rattle.cbf_letters.proofs.letters.numbers_of.Tie as tie
 

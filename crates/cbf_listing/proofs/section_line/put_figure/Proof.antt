@@ -2,7 +2,7 @@
 use borrow.Author.Needs.{needs}
 use mathlib.Core.List.{[], _∷_}
 use Rattle.cbf_format.specs.Listing.{printed}
-use Rattle.cbf_write.proofs.Puts.{put-both}
+use Rattle.cbf_write.proofs.PutLaws.{put-both}
 use Rattle.cbf_listing.proofs.SectionLineLaws.{first-fits, rest-fits}
 use Rattle.cbf_listing.proofs.section_line.put_figure.Statement.{statement}
 use Rattle.cbf_listing.proofs.section_line.put_figure.Tie as tie

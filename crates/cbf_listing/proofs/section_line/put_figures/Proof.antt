@@ -4,7 +4,7 @@ use Prim.Native.Nat.{_+_, _≤_}
 use borrow.Author.Needs.{needs}
 use lib.ListN.{length}
 use Rattle.cbf_listing.specs.SectionLine.{figure}
-use Rattle.cbf_write.proofs.Puts.{put-both}
+use Rattle.cbf_write.proofs.PutLaws.{put-both}
 use Rattle.cbf_listing.proofs.SectionLineLaws.{first-fits, rest-fits}
 use Rattle.cbf_listing.proofs.section_line.put_figures.Statement.{statement}
 use Rattle.cbf_listing.proofs.section_line.put_figures.Tie as tie

@@ -7,7 +7,7 @@ use lib.ListN.{length}
 use lib.Seq.{slice}
 use Rattle.cbf_format.specs.Listing.{compressionName, typeName, named, spaced}
 use Rattle.cbf_listing.specs.SectionLine.{lineFor, figures}
-use Rattle.cbf_write.proofs.Puts.{put-both}
+use Rattle.cbf_write.proofs.PutLaws.{put-both}
 use Rattle.cbf_listing.proofs.SectionLineLaws.{first-fits, rest-fits, line-pieces}
 use Rattle.cbf_listing.proofs.section_line.put_line.Statement.{statement}
 use Rattle.cbf_listing.proofs.section_line.put_line.Tie as tie

@@ -7,7 +7,7 @@ use borrow.Author.Needs.{needs}
 use lib.ListN.{length, take, drop}
 use lib.Seq.{slice}
 use Rattle.cbf_format.specs.Listing.{named}
-use Rattle.cbf_write.proofs.Puts.{put-both}
+use Rattle.cbf_write.proofs.PutLaws.{put-both}
 use Rattle.cbf_listing.proofs.SectionLineLaws.{first-fits, rest-fits, name-empty, name-pieces}
 use Rattle.cbf_listing.proofs.section_line.put_name.Statement.{statement}
 use Rattle.cbf_listing.proofs.section_line.put_name.Tie as tie

@@ -3,7 +3,7 @@ use mathlib.Core.List.{List}
 use Prim.Native.Nat.{ℕ}
 use borrow.Author.Needs.{needs}
 use lib.ListN.{drop}
-use Rattle.cbf_replace.specs.HeadTexts.{headText}
+use Rattle.cbf_replace.specs.Head.{headText}
 use Rattle.cbf_replace.proofs.HeadLaws.{Written, written-none, written-more, written-all, written-length}
 use Rattle.cbf_replace.proofs.HeadLaws.{next-fits, headPieces, head-pieces}
 use Rattle.cbf_replace.proofs.head.put_head.Statement.{statement}

@@ -4,7 +4,7 @@ use mathlib.Core.List.{List}
 use Prim.Native.Nat.{ℕ}
 use borrow.Author.Needs.{needs}
 use lib.ListN.{drop}
-use Rattle.cbf_replace.specs.HeadTexts.{lineText}
+use Rattle.cbf_replace.specs.Head.{lineText}
 use Rattle.cbf_replace.proofs.HeadLaws.{Written, written-none, written-more, written-all, next-fits}
 use Rattle.cbf_replace.proofs.HeadLaws.{linePieces, line-pieces}
 use Rattle.cbf_replace.proofs.head.put_line.Statement.{statement}

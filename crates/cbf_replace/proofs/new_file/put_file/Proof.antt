@@ -7,7 +7,7 @@ use borrow.Author.Needs.{needs}
 use lib.ListN.{drop}
 use lib.Seq.{length-take-le}
 use Rattle.cbf_pixels.specs.Pixels.{packByteOffset}
-use Rattle.cbf_replace.specs.NewFiles.{fileWith}
+use Rattle.cbf_replace.specs.NewFile.{fileWith}
 use Rattle.cbf_replace.proofs.HeadLaws.{Written, written-none, written-more, written-all, next-fits}
 use Rattle.cbf_replace.proofs.NewFileLaws.{filePieces, file-pieces}
 use Rattle.cbf_replace.proofs.new_file.put_file.Statement.{statement}

@@ -6,7 +6,7 @@ use native.Mathlib.Omega.{arith}
 use borrow.Author.Needs.{needs}
 use lib.ListN.{length}
 use Rattle.cbf_pixels.specs.Pixels.{packByteOffset}
-use Rattle.cbf_replace.specs.NewFiles.{fileWith}
+use Rattle.cbf_replace.specs.NewFile.{fileWith}
 use Rattle.cbf_replace.proofs.NewFileLaws.{file-length, packed-large, packed-long, packed-no-room, packed-done}
 use Rattle.cbf_replace.proofs.new_file.replace_packed.Statement.{statement}
 use Rattle.cbf_replace.proofs.new_file.replace_packed.Tie as tie

@@ -5,8 +5,8 @@ use borrow.Author.Needs.{needs}
 use Rattle.cbf_format.specs.Listing.{Placed}
 use Rattle.cbf_reader.specs.WholeFile.{NumberedSays}
 use Rattle.cbf_format.specs.declared.Numbered.{Numbered}
-use Rattle.cbf_sections.specs.SectionCalls.{value, sectionNumbered}
-use Rattle.cbf_replace.proofs.ReplaceLaws.{Here, here-of, replace-refused, replace-text, replace-binary}
+use Rattle.cbf_format.specs.SectionCalls.{value, sectionNumbered}
+use Rattle.cbf_replace.proofs.ReplaceFrameLaws.{Here, here-of, replace-refused, replace-text, replace-binary}
 use Rattle.cbf_replace.proofs.replace_frame.replace.Statement.{statement}
 use Rattle.cbf_format.specs.Files as F
 use Rattle.cbf_replace.proofs.replace_frame.replace.Tie as tie

@@ -2,7 +2,7 @@
 use mathlib.Core.Path.{sym, _∙_}
 use borrow.Author.Needs.{needs}
 use Rattle.cbf_pixels.specs.Pixels.{packByteOffset}
-use Rattle.cbf_replace.specs.NewFiles.{fileWith}
+use Rattle.cbf_replace.specs.NewFile.{fileWith}
 use Rattle.cbf_replace.proofs.NewFileLaws.{wrong-count, pixel-outside, frame-packed, frame-fits}
 use Rattle.cbf_replace.proofs.replace_frame.replace_section.Statement.{statement}
 use Rattle.cbf_replace.proofs.replace_frame.replace_section.Tie as tie

@@ -2,8 +2,8 @@
 use mathlib.Core.Path.{ap, _∙_, sym}
 use Rattle.cbf_answers.specs.Answers.{outcome}
 use Rattle.cbf_answers.specs.declared.Answer.{Answer}
-use Rattle.cbf_sections.specs.SectionCalls.{placedAt}
-use Rattle.cbf_sections.proofs.SectionCallLaws.{placed-13, placed-other}
+use Rattle.cbf_format.specs.SectionCalls.{placedAt}
+use Rattle.cbf_sections.proofs.SectionCallsLaws.{placed-13, placed-other}
 use borrow.Author.Needs.{needs}
 use Rattle.cbf_sections.proofs.frame.placed.Statement.{statement}
 use Rattle.cbf_sections.proofs.frame.placed.Tie as tie

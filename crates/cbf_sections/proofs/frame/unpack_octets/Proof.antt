@@ -1,7 +1,7 @@
 -- `unpack_octets` meets its contract, by those of the two functions that unpack. Assumes nothing.
 use native.Mathlib.Omega.{arith}
 use denote.Ref.{now}
-use Rattle.cbf_sections.proofs.SectionCallLaws.{part-taken, frame-binary, frame-text, said-of}
+use Rattle.cbf_sections.proofs.SectionCallsLaws.{part-taken, frame-binary, frame-text, said-of}
 use borrow.Author.Needs.{needs}
 use Rattle.cbf_sections.proofs.frame.unpack_octets.Statement.{statement}
 use Rattle.cbf_sections.proofs.frame.unpack_octets.Tie as tie

@@ -3,9 +3,9 @@ use mathlib.Core.Path.{_≡_, _∙_, sym, ap, subst}
 use mathlib.Core.Logic.{⊎-elim}
 use native.Mathlib.Omega.{arith}
 use denote.Ref.{now}
-use Rattle.cbf_sections.specs.SectionCalls.{octetsOf, octetsPart, placeOf}
-use Rattle.cbf_sections.specs.declared.section_calls.OctetsPlace.{OctetsPlace}
-use Rattle.cbf_sections.proofs.SectionCallLaws.{PartAt, PartFor, part-taken, part-at}
+use Rattle.cbf_format.specs.SectionCalls.{octetsOf, octetsPart, placeOf}
+use Rattle.cbf_format.specs.declared.OctetsPlace.{OctetsPlace}
+use Rattle.cbf_sections.proofs.SectionCallsLaws.{PartAt, PartFor, part-taken, part-at}
 use borrow.Author.Needs.{needs}
 use Rattle.cbf_sections.proofs.section_calls.octets.Statement.{statement}
 use Rattle.cbf_format.specs.Files as F

@@ -1,9 +1,9 @@
 -- `octets_answer` meets its contract, by that of `octets_at`. Assumes nothing.
 use mathlib.Core.Path.{_≡_, ap, _∙_, sym}
 use denote.Ref.{now}
-use Rattle.cbf_sections.specs.SectionCalls.{octetsOf, octetsOutcome, placeOf}
-use Rattle.cbf_sections.specs.declared.section_calls.OctetsPlace.{OctetsPlace}
-use Rattle.cbf_sections.proofs.SectionCallLaws.{placeOutcome, place-outcome}
+use Rattle.cbf_format.specs.SectionCalls.{octetsOf, octetsOutcome, placeOf}
+use Rattle.cbf_format.specs.declared.OctetsPlace.{OctetsPlace}
+use Rattle.cbf_sections.proofs.SectionCallsLaws.{placeOutcome, place-outcome}
 use borrow.Author.Needs.{needs}
 use Rattle.cbf_sections.proofs.section_calls.octets_answer.Statement.{statement}
 use Rattle.cbf_format.specs.Files as F

@@ -2,8 +2,8 @@
 use mathlib.Core.Path.{_≡_, ap, _∙_, sym}
 use denote.Ref.{now}
 use Rattle.cbf_format.specs.declared.Numbered.{Numbered}
-use Rattle.cbf_sections.specs.SectionCalls.{octetsOf, octetsPlace}
-use Rattle.cbf_sections.proofs.SectionCallLaws.{numberedPlace, place-in}
+use Rattle.cbf_format.specs.SectionCalls.{octetsOf, octetsPlace}
+use Rattle.cbf_sections.proofs.SectionCallsLaws.{numberedPlace, place-in}
 use borrow.Author.Needs.{needs}
 use Rattle.cbf_sections.proofs.section_calls.octets_at.Statement.{statement}
 use Rattle.cbf_format.specs.Files as F

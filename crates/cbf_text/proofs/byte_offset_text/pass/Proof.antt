@@ -9,8 +9,9 @@ use mir.Val.{toZ}
 use borrow.Author.Tests.{not-true, not-false}
 use Rattle.cbf_pixels.specs.Pixels.{unpackByteOffset}
 use Rattle.cbf_letters.specs.Octets.{textOctets}
-use Rattle.cbf_text.proofs.PassLaws.{Passing, starts, refilled, there, fillable, done-length, ends, ends-not}
-use Rattle.cbf_text.proofs.PassLaws.{output, turn-length, turn-few, turn-fails, turn-moves, turned}
+use Rattle.cbf_text.proofs.ByteOffsetTextLaws.{Passing, starts, refilled, there, fillable, done-length, ends}
+use Rattle.cbf_text.proofs.ByteOffsetTextLaws.{ends-not, output, turn-length, turn-few, turn-fails, turn-moves}
+use Rattle.cbf_text.proofs.ByteOffsetTextLaws.{turned}
 use Rattle.cbf_text.proofs.byte_offset_text.pass.Statement.{statement}
 use Rattle.cbf_text.proofs.byte_offset_text.pass.Tie as tie
 

@@ -1,5 +1,5 @@
 -- `refill` meets its contract: fewer octets were to come than came, or all that came are taken. Assumes nothing.
-use Rattle.cbf_text.proofs.WindowLaws.{refilled-last, refilled-more}
+use Rattle.cbf_text.proofs.TextWindowLaws.{refilled-last, refilled-more}
 use borrow.Author.Needs.{needs}
 use Rattle.cbf_text.proofs.text_window.refill.Statement.{statement}
 use Rattle.cbf_text.proofs.text_window.refill.Tie as tie

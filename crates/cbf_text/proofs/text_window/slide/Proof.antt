@@ -1,7 +1,7 @@
 -- `slide` meets its contract: j octets are moved. Assumes nothing.
 use Prim.Native.Nat.{_-_, _≤_}
 use native.Mathlib.Omega.{arith}
-use Rattle.cbf_text.proofs.WindowLaws.{Slid, slid-none, slid-more, slid-all}
+use Rattle.cbf_text.proofs.TextWindowLaws.{Slid, slid-none, slid-more, slid-all}
 use Rattle.cbf_text.proofs.text_window.slide.Statement.{statement}
 use Rattle.cbf_text.proofs.text_window.slide.Tie as tie
 

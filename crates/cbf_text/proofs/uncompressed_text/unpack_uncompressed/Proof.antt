@@ -8,7 +8,8 @@ use lib.Seq.{length-take-le}
 use Rattle.cbf_letters.specs.Octets.{textOctets}
 use Rattle.cbf_pixels.proofs.UncompressedPixels.{has-octets}
 use Rattle.cbf_unpack.proofs.UncompressedLaws.{loaded}
-use Rattle.cbf_text.proofs.WindowLaws.{all-octets, whole-pixels, Loaded, loaded-none, some-octets, loaded-more}
+use Rattle.cbf_text.proofs.TextWindowLaws.{all-octets, whole-pixels, Loaded, loaded-none, some-octets}
+use Rattle.cbf_text.proofs.TextWindowLaws.{loaded-more}
 use Rattle.cbf_text.proofs.uncompressed_text.unpack_uncompressed.Statement.{statement}
 use Rattle.cbf_text.proofs.uncompressed_text.unpack_uncompressed.Tie as tie
 

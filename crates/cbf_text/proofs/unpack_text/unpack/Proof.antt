@@ -17,7 +17,7 @@ use Rattle.cbf_pixels.specs.declared.Compression.the-variants.{Uncompressed, By
 use Rattle.cbf_pixels.proofs.Integers.{never}
 use Rattle.cbf_unpack.proofs.UnpackingLaws.{Unpacked, unpack-bad, unpack-no-room, unpack-done, uncompressed-some}
 use Rattle.cbf_letters.specs.Octets.{textOctets}
-use Rattle.cbf_text.proofs.WindowLaws.{all-octets}
+use Rattle.cbf_text.proofs.TextWindowLaws.{all-octets}
 use Rattle.cbf_text.proofs.unpack_text.unpack.Statement.{statement}
 use Rattle.cbf_text.proofs.unpack_text.unpack.Tie as tie
 

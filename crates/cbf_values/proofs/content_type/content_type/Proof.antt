@@ -8,7 +8,8 @@ use borrow.Author.Needs.{needs}
 use denote.Ref.{now}
 use lib.Seq.{slice}
 use Rattle.cbf_format.specs.Values.{contentType}
-use Rattle.cbf_values.specs.Value.{joined, PartAt, wholeOf}
+use Rattle.cbf_values.specs.Value.{joined, wholeOf}
+use Rattle.cbf_values.specs.ContentType.{PartAt}
 use Rattle.cbf_values.specs.declared.content_type.PartEnd.{PartEnd}
 use Rattle.cbf_values.specs.declared.content_type.PartEnd.the-variants.{At}
 use Rattle.cbf_values.proofs.ContentTypeLaws.{first-free, following, later-start}

@@ -9,7 +9,8 @@ use denote.Ref.{now}
 use lib.Seq.{slice}
 use Rattle.cbf_format.specs.Text.{bytes}
 use Rattle.cbf_format.specs.Values.{quotedOneOf, unquote}
-use Rattle.cbf_values.specs.Value.{joined, someOf}
+use Rattle.cbf_values.specs.Value.{joined}
+use Rattle.cbf_values.specs.ContentType.{someOf}
 use Rattle.cbf_values.proofs.ContentTypeLaws.{one-word}
 use Rattle.cbf_values.proofs.content_type.is_byte_offset.Statement.{statement}
 use Rattle.cbf_values.proofs.content_type.is_byte_offset.Tie as tie

@@ -9,7 +9,8 @@ use borrow.Author.Needs.{needs}
 use denote.Ref.{now}
 use lib.Seq.{slice}
 use Rattle.cbf_format.specs.declared.Conversion.{Conversion}
-use Rattle.cbf_values.specs.Value.{joined, laterParts, PartAt, wholeOf}
+use Rattle.cbf_values.specs.Value.{joined, wholeOf}
+use Rattle.cbf_values.specs.ContentType.{laterParts, PartAt}
 use Rattle.cbf_values.specs.declared.content_type.PartEnd.{PartEnd}
 use Rattle.cbf_values.specs.declared.content_type.PartEnd.the-variants.{At}
 use Rattle.cbf_values.proofs.ContentTypeLaws.{saidBy, said-next, following, later-start, following-here}

@@ -1,6 +1,6 @@
 -- `digits::digit_count` meets its contract: the loop has counted k digits. Assumes nothing.
 use native.Mathlib.Omega.{arith}
-use Rattle.cbf_write.proofs.DigitLaws.{Counted, counted-none, counted-more, counted-all}
+use Rattle.cbf_write.proofs.DigitsLaws.{Counted, counted-none, counted-more, counted-all}
 use Rattle.cbf_write.proofs.digits.digit_count.Statement.{statement}
 use Rattle.cbf_write.proofs.digits.digit_count.Tie as tie
 

@@ -7,8 +7,8 @@ use native.Mathlib.Omega.{arith}
 use lib.ListN.{length}
 use lib.Seq.{sets}
 use Rattle.cbf_format.specs.Listing.{printed}
-use Rattle.cbf_write.proofs.Puts.{puts-length}
-use Rattle.cbf_write.proofs.DigitLaws.{lastDigits, digits-last, digit-put}
+use Rattle.cbf_write.proofs.PutLaws.{puts-length}
+use Rattle.cbf_write.proofs.DigitsLaws.{lastDigits, digits-last, digit-put}
 use Rattle.cbf_write.proofs.digits.put_number.Statement.{statement}
 use Rattle.cbf_write.proofs.digits.put_number.Tie as tie
 

@@ -3,7 +3,7 @@ use mathlib.Core.Path.{refl}
 use Prim.Native.Nat.{_-_}
 use native.Mathlib.Omega.{arith}
 use lib.ListN.{length}
-use Rattle.cbf_write.proofs.Puts.{Copied, copied-length, copied-more, copied-all}
+use Rattle.cbf_write.proofs.PutLaws.{Copied, copied-length, copied-more, copied-all}
 use Rattle.cbf_write.proofs.large.copy.Statement.{statement}
 use Rattle.cbf_write.proofs.large.copy.Tie as tie
 

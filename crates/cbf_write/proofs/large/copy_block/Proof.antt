@@ -8,7 +8,7 @@ use native.Mathlib.Omega.{arith}
 use lib.ListN.{length, take, drop, getD, length-set}
 use lib.Seq.{sets}
 use borrow.Author.Needs.{needs}
-use Rattle.cbf_write.proofs.Puts.{puts-length, sets-part, held-more}
+use Rattle.cbf_write.proofs.PutLaws.{puts-length, sets-part, held-more}
 use Rattle.cbf_write.proofs.large.copy_block.Statement.{statement}
 use Rattle.cbf_write.proofs.large.copy_block.Tie as tie
 

@@ -6,7 +6,7 @@ use native.Mathlib.Numerals.{add-one}
 use native.Mathlib.Omega.{arith}
 use lib.ListN.{take, drop}
 use lib.Seq.{sets}
-use Rattle.cbf_write.proofs.Puts.{puts-length, sets-part}
+use Rattle.cbf_write.proofs.PutLaws.{puts-length, sets-part}
 use Rattle.cbf_write.proofs.put.put_block.Statement.{statement}
 use Rattle.cbf_write.proofs.put.put_block.Tie as tie
 

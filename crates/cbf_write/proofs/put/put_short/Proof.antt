@@ -5,7 +5,7 @@ use mathlib.Core.Logic.{⊎-elim}
 use Prim.Native.Nat.{_+_, _-_, _<_}
 use native.Mathlib.Omega.{arith}
 use lib.ListN.{length}
-use Rattle.cbf_write.proofs.Puts.{Copied, copied-length, copied-more, copied-as, copied-all}
+use Rattle.cbf_write.proofs.PutLaws.{Copied, copied-length, copied-more, copied-as, copied-all}
 use Rattle.cbf_write.proofs.put.put_short.Statement.{statement}
 use Rattle.cbf_write.proofs.put.put_short.Tie as tie
 

@@ -6,7 +6,7 @@ use native.Mathlib.Numerals.{add-one}
 use native.Mathlib.Omega.{arith}
 use lib.ListN.{length, take}
 use lib.Seq.{sets, take-all}
-use Rattle.cbf_write.proofs.Puts.{puts-length, sets-take}
+use Rattle.cbf_write.proofs.PutLaws.{puts-length, sets-take}
 use Rattle.cbf_write.proofs.put.put_text.Statement.{statement}
 use Rattle.cbf_write.proofs.put.put_text.Tie as tie
 

@@ -28,7 +28,7 @@ use Rattle.cbf_validate.proofs.ValidateLaws.{zero-within}
 use Rattle.cbf_unpack.proofs.FillLaws.{onto-onto, onto-nil, rest-empty}
 use Rattle.cbf_letters.specs.Octets.{textOctets}
 use Rattle.cbf_text.specs.TextWindow.{content, Holds}
-use Rattle.cbf_text.specs.TextParts.{PartSays, passOutput}
+use Rattle.cbf_text.specs.ByteOffsetText.{PartSays, passOutput}
 use Rattle.cbf_text.specs.declared.text_window.Window.{Window}
 
 -- ---- pixels so far: of all pixels those that are left come after z

@@ -20,11 +20,11 @@ use Rattle.cbf_format.proofs.ReplacementLaws.{SpanAt, span-at}
 use Rattle.cbf_reader.specs.Walk.{SectionOf}
 use Rattle.cbf_reader.specs.WholeFile.{NumberedSays}
 use Rattle.cbf_format.specs.declared.Section.{Section}
-use Rattle.cbf_sections.specs.SectionCalls.{value, orMissing, sectionNumbered}
-use Rattle.cbf_sections.proofs.SectionCallLaws.{frame-of, section-answer, section-refused}
+use Rattle.cbf_format.specs.SectionCalls.{value, orMissing, sectionNumbered}
+use Rattle.cbf_sections.proofs.SectionCallsLaws.{frame-of, section-answer, section-refused}
 use Rattle.cbf_answers.proofs.Rooms.{Says, refusal}
-use Rattle.cbf_replace.specs.ReplaceCalls.{replaceFitting, replaceFor, replaceOutcome, replacedBy}
-use Rattle.cbf_replace.specs.NewFiles.{fileWith, SpanIn}
+use Rattle.cbf_format.specs.ReplaceCalls.{replaceFitting, replaceFor, replaceOutcome, replacedBy}
+use Rattle.cbf_replace.specs.NewFile.{fileWith, SpanIn}
 use Rattle.cbf_replace.proofs.NewFileLaws.{SaysFitting}
 use Rattle.cbf_format.specs.Sections as S
 use Rattle.cbf_format.specs.Files as F

@@ -26,7 +26,7 @@ use Rattle.cbf_lines.specs.Text.{isLetter}
 use Rattle.cbf_lines.proofs.TextLaws.{tests-agree}
 use Rattle.cbf_letters.specs.Letters.{addSix, sixes}
 use Rattle.cbf_letters.specs.Octets.{textByte}
-use Rattle.cbf_letters.proofs.LetterLaws.{letters-by, base64-letters}
+use Rattle.cbf_letters.proofs.SixesLaws.{letters-by, base64-letters}
 
 -- ---- one byte
 

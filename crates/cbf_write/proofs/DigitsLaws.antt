@@ -10,7 +10,7 @@ use lib.Dec.{ltb}
 use lib.ListN.{length, length-append, set}
 use lib.Seq.{sets}
 use Rattle.cbf_format.specs.Listing.{digitsOf}
-use Rattle.cbf_write.proofs.Puts.{last-first}
+use Rattle.cbf_write.proofs.PutLaws.{last-first}
 
 -- ---- one digit more
 

@@ -10,15 +10,15 @@ use Rattle.cbf_walk.specs.Reading.{Item, Reading}
 use Rattle.cbf_pixels.specs.Pixels.{least, greatest, allWithin, packByteOffset}
 use Rattle.cbf_answers.specs.Answers.{Outcome, refuses, written}
 use Rattle.cbf_answers.specs.Limits.{octetLimit, fileLimit}
 use Rattle.cbf_format.specs.declared.Encoding.{Encoding}
 use Rattle.cbf_format.specs.declared.Encoding.the-variants.{Binary, Base64}
 use Rattle.cbf_format.specs.declared.Description.{Description}
 use Rattle.cbf_format.specs.Sections.{Section}
 use Rattle.cbf_format.specs.Files.{State}
 use Rattle.cbf_format.specs.Listing.{Placed}
 use Rattle.cbf_format.specs.House.{replacedFile}
 use Rattle.cbf_answers.specs.Rooms.{roomFor}
-use Rattle.cbf_sections.specs.SectionCalls.{Result, refusal, value, sectionNumbered, sectionOutcome}
+use Rattle.cbf_format.specs.SectionCalls.{Result, refusal, value, sectionNumbered, sectionOutcome}
 
 -- "Fits: as many pixels as elements, each inside the integer type"
 unfoldable pub frameFits : Description → List ℤ → Bool

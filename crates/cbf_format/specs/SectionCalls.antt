@@ -10,16 +10,16 @@ use lib.IntN.{ℤ}
 use Rattle.cbf_walk.specs.Reading.{Item, Reading, refused, good}
 use Rattle.cbf_answers.specs.Answers.{Outcome, gives, refuses, written}
 use Rattle.cbf_pixels.specs.PixelCalls.{isSome, pixelsOf, unpackPixels}
 use Rattle.cbf_format.specs.declared.Encoding.{Encoding}
 use Rattle.cbf_format.specs.declared.Encoding.the-variants.{Binary, Base64}
 use Rattle.cbf_format.specs.Listing.{Placed, sections, numbered, position}
 use Rattle.cbf_format.specs.declared.Description.{Description}
 use Rattle.cbf_format.specs.declared.Numbered.{Numbered}
-use Rattle.cbf_sections.specs.declared.section_calls.OctetsPlace.{OctetsPlace}
+use Rattle.cbf_format.specs.declared.OctetsPlace.{OctetsPlace}
 use Rattle.cbf_format.specs.Sections as S
 use Rattle.cbf_format.specs.Files as F
 use Rattle.cbf_format.specs.declared.Numbered.the-variants as N
-use Rattle.cbf_sections.specs.declared.section_calls.OctetsPlace.the-variants as O
+use Rattle.cbf_format.specs.declared.OctetsPlace.the-variants as O
 
 -- the number of sections, or reading's refusal
 unfoldable pub readOutcome : Reading (Item F.State S.Section) → Outcome

@@ -29,12 +29,11 @@ use Rattle.cbf_format.specs.declared.Section.{Section}
 use Rattle.cbf_reader.specs.declared.whole_file.Count.{Count}
 use Rattle.cbf_format.specs.declared.Numbered.{Numbered}
 use Rattle.cbf_letters.specs.Octets.{GoodText, textOctets, TextOf}
-use Rattle.cbf_sections.specs.SectionCalls.{readOutcome, Result, refusal, value, orMissing, sectionNumbered}
-use Rattle.cbf_sections.specs.SectionCalls.{ofSection, sectionOutcome, numberedFields, fieldsOf, sectionFields}
-use Rattle.cbf_sections.specs.SectionCalls.{placedAt, frameOf, frameFor, frameOutcome, framePixels}
-use Rattle.cbf_sections.specs.SectionCalls.{OctetsAnswer, octetsFor, octetsIn, octetsOf, Place, octetsPlace}
-use Rattle.cbf_sections.specs.SectionCalls.{octetsOutcome, octetsPart}
-use Rattle.cbf_sections.specs.FramePlaces.{FrameOf}
+use Rattle.cbf_format.specs.SectionCalls.{readOutcome, Result, refusal, value, orMissing, sectionNumbered, ofSection}
+use Rattle.cbf_format.specs.SectionCalls.{sectionOutcome, numberedFields, fieldsOf, sectionFields, placedAt, frameOf}
+use Rattle.cbf_format.specs.SectionCalls.{frameFor, frameOutcome, framePixels, OctetsAnswer, octetsFor, octetsIn}
+use Rattle.cbf_format.specs.SectionCalls.{octetsOf, Place, octetsPlace, octetsOutcome, octetsPart}
+use Rattle.cbf_sections.specs.Frame.{FrameOf}
 use Rattle.cbf_format.proofs.Slices.{slice-part}
 use Rattle.cbf_letters.proofs.SectionTexts.{text-of}
 use Rattle.cbf_format.specs.Sections as S
