@@ -15,7 +15,7 @@ use Rattle.cbf_format.specs.declared.Symbol.{Symbol}
 use Rattle.cbf_format.specs.declared.Symbol.the-variants.{Letter, Pad, Blank, Other}
 use Rattle.cbf_format.specs.Text.{blank}
 use Rattle.cbf_format.specs.Base64.{symbol, addSymbol, addSymbols, addOctets, lastGroup, isEmpty, decode}
-use Rattle.cbf_format.specs.Base64Text.{alphabet, letterOf, encode, written}
+use Rattle.cbf_format.specs.Base64Text.{alphabet, letterOf, encode, writtenSymbols}
 use Rattle.cbf_format.proofs.LineTame.{and-true}
 
 -- ---- a letter is read as its number: one test, computed over the alphabet
@@ -50,7 +50,7 @@ letter-symbol n h =
 
 -- ---- what octets are written as is read as them
 
-pub decode-written : {os : List ℕ} → Octets os → decode (written os) ≡ some os
+pub decode-written : {os : List ℕ} → Octets os → decode (writtenSymbols os) ≡ some os
 unfolding encode decode symbol
 decode-written no-octet = refl
 decode-written (octet {o = a} h no-octet) =
@@ -153,8 +153,8 @@ decode-octets (more a (more b (more c (more {l = l} d p)))) = octets-four l a b 
 
 -- ---- only what octets are written as is read as them
 
-only-full : (a b c d : ℕ) (l : List Symbol) (os : List ℕ) → a < 64 → b < 64 → c < 64 → d < 64 → written os ≡ l
-    → written ((a * 4 + b / 16) ∷ (b % 16 * 16 + c / 4) ∷ (c % 4 * 64 + d) ∷ os) ≡ Letter a ∷ Letter b ∷ Letter c ∷ Letter d ∷ l
+only-full : (a b c d : ℕ) (l : List Symbol) (os : List ℕ) → a < 64 → b < 64 → c < 64 → d < 64 → writtenSymbols os ≡ l
+    → writtenSymbols ((a * 4 + b / 16) ∷ (b % 16 * 16 + c / 4) ∷ (c % 4 * 64 + d) ∷ os) ≡ Letter a ∷ Letter b ∷ Letter c ∷ Letter d ∷ l
 unfolding encode
 only-full a b c d l os ha hb hc hd e =
     let p : (a * 4 + b / 16) / 4 ≡ a = omega arith in
@@ -164,7 +164,7 @@ only-full a b c d l os ha hb hc hd e =
     rw (p, q, r, t, letter-symbol a ha, letter-symbol b hb, letter-symbol c hc, letter-symbol d hd, e)
 
 only-two : (a b c : ℕ) → a < 64 → b < 64 → c < 64 → c % 4 ≡ 0
-    → written ((a * 4 + b / 16) ∷ (b % 16 * 16 + c / 4) ∷ []) ≡ Letter a ∷ Letter b ∷ Letter c ∷ Pad ∷ []
+    → writtenSymbols ((a * 4 + b / 16) ∷ (b % 16 * 16 + c / 4) ∷ []) ≡ Letter a ∷ Letter b ∷ Letter c ∷ Pad ∷ []
 unfolding encode symbol
 only-two a b c ha hb hc z =
     let p : (a * 4 + b / 16) / 4 ≡ a = omega arith in
@@ -172,16 +172,16 @@ only-two a b c ha hb hc z =
     let r : (b % 16 * 16 + c / 4) % 16 * 4 ≡ c = omega arith in
     rw (p, q, r) (rw (letter-symbol a ha, letter-symbol b hb, letter-symbol c hc))
 
-only-one : (a b : ℕ) → a < 64 → b < 64 → b % 16 ≡ 0 → written ((a * 4 + b / 16) ∷ []) ≡ Letter a ∷ Letter b ∷ Pad ∷ Pad ∷ []
+only-one : (a b : ℕ) → a < 64 → b < 64 → b % 16 ≡ 0 → writtenSymbols ((a * 4 + b / 16) ∷ []) ≡ Letter a ∷ Letter b ∷ Pad ∷ Pad ∷ []
 unfolding encode symbol
 only-one a b ha hb z =
     let p : (a * 4 + b / 16) / 4 ≡ a = omega arith in
     let q : (a * 4 + b / 16) % 4 * 16 ≡ b = omega arith in
     rw (p, q) (rw (letter-symbol a ha, letter-symbol b hb))
 
-pub decode-only : {l : List Symbol} (os : List ℕ) → Plains l → decode l ≡ some os → written os ≡ l
+pub decode-only : {l : List Symbol} (os : List ℕ) → Plains l → decode l ≡ some os → writtenSymbols os ≡ l
 unfolding decode encode
-decode-only os no-symbol e = let z : [] ≡ os = cc in ap written (sym z)
+decode-only os no-symbol e = let z : [] ≡ os = cc in ap writtenSymbols (sym z)
 decode-only os (more a no-symbol) e = absurd (Option·none-ne-some os e)
 decode-only os (more a (more b no-symbol)) e = absurd (Option·none-ne-some os e)
 decode-only os (more a (more b (more c no-symbol))) e = absurd (Option·none-ne-some os e)
@@ -189,24 +189,24 @@ decode-only os (more (letter {n = a} ha) (more (letter {n = b} hb) (more (letter
     full (decode l) refl e (λ os e. decode-only os p e)
   where
     full : (r : Option (List ℕ)) → decode l ≡ r → addOctets ((a * 4 + b / 16) ∷ (b % 16 * 16 + c / 4) ∷ (c % 4 * 64 + d) ∷ []) r ≡ some os
-        → ((os : List ℕ) → decode l ≡ some os → written os ≡ l) → written os ≡ Letter a ∷ Letter b ∷ Letter c ∷ Letter d ∷ l
+        → ((os : List ℕ) → decode l ≡ some os → writtenSymbols os ≡ l) → writtenSymbols os ≡ Letter a ∷ Letter b ∷ Letter c ∷ Letter d ∷ l
     full none q e ih = absurd (Option·none-ne-some os e)
     full (some r) q e ih =
         let z : (a * 4 + b / 16) ∷ (b % 16 * 16 + c / 4) ∷ (c % 4 * 64 + d) ∷ r ≡ os = cc in
-        ap written (sym z) ∙ only-full a b c d l r ha hb hc hd (ih r q)
+        ap writtenSymbols (sym z) ∙ only-full a b c d l r ha hb hc hd (ih r q)
 decode-only os (more (letter {n = a} ha) (more (letter {n = b} hb) (more (letter {n = c} hc) (more pad no-symbol)))) e = two (eqb (c % 4) 0) refl e
   where
     two : (t : Bool) → eqb (c % 4) 0 ≡ t → lastGroup t ((a * 4 + b / 16) ∷ (b % 16 * 16 + c / 4) ∷ []) ≡ some os
-        → written os ≡ Letter a ∷ Letter b ∷ Letter c ∷ Pad ∷ []
+        → writtenSymbols os ≡ Letter a ∷ Letter b ∷ Letter c ∷ Pad ∷ []
     two true q e =
         let z : (a * 4 + b / 16) ∷ (b % 16 * 16 + c / 4) ∷ [] ≡ os = cc in
-        ap written (sym z) ∙ only-two a b c ha hb hc (eqb-true (c % 4) 0 q)
+        ap writtenSymbols (sym z) ∙ only-two a b c ha hb hc (eqb-true (c % 4) 0 q)
     two false q e = absurd (Option·none-ne-some os e)
 decode-only os (more (letter ha) (more (letter hb) (more (letter hc) (more pad (more s p))))) e = absurd (Option·none-ne-some os e)
 decode-only os (more (letter {n = a} ha) (more (letter {n = b} hb) (more pad (more pad no-symbol)))) e = one (eqb (b % 16) 0) refl e
   where
-    one : (t : Bool) → eqb (b % 16) 0 ≡ t → lastGroup t ((a * 4 + b / 16) ∷ []) ≡ some os → written os ≡ Letter a ∷ Letter b ∷ Pad ∷ Pad ∷ []
-    one true q e = let z : (a * 4 + b / 16) ∷ [] ≡ os = cc in ap written (sym z) ∙ only-one a b ha hb (eqb-true (b % 16) 0 q)
+    one : (t : Bool) → eqb (b % 16) 0 ≡ t → lastGroup t ((a * 4 + b / 16) ∷ []) ≡ some os → writtenSymbols os ≡ Letter a ∷ Letter b ∷ Pad ∷ Pad ∷ []
+    one true q e = let z : (a * 4 + b / 16) ∷ [] ≡ os = cc in ap writtenSymbols (sym z) ∙ only-one a b ha hb (eqb-true (b % 16) 0 q)
     one false q e = absurd (Option·none-ne-some os e)
 decode-only os (more (letter ha) (more (letter hb) (more pad (more pad (more s p))))) e = absurd (Option·none-ne-some os e)
 decode-only os (more (letter ha) (more (letter hb) (more pad (more (letter hd) p)))) e = absurd (Option·none-ne-some os e)

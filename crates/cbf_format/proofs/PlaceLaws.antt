@@ -28,8 +28,8 @@ use Rattle.cbf_format.specs.declared.Encoding.the-variants.{Binary, Base
 use Rattle.cbf_format.specs.declared.Description.{Description}
 use Rattle.cbf_format.specs.Descriptions.{Judged, refused-at, found, look, put, judgeHeader}
 use Rattle.cbf_format.specs.Descriptions.{judgeOn as judgedOn, judge, description, agrees, Verdict}
-use Rattle.cbf_format.specs.Descriptions.{refuses as refusesAt, describes, described, verdictOf, verdict}
-use Rattle.cbf_format.specs.Descriptions.{concludedBy, concluded, headers}
+use Rattle.cbf_format.specs.Descriptions.{headers-refused as refusesAt, describes, described, verdictOf}
+use Rattle.cbf_format.specs.Descriptions.{verdict, concludedBy, concluded, headers}
 use Rattle.cbf_format.specs.Base64.{symbol, isOther, refusedSymbol, Letters, addSymbols, refusedText, moreText}
 use Rattle.cbf_format.specs.Base64.{letters, decode, sized}
 use Rattle.cbf_format.specs.Sections.{closing, marker, closed, closedAfter, binaryData, goodText, blameAt}

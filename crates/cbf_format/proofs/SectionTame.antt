@@ -14,7 +14,8 @@ use Rattle.cbf_format.specs.Headers.{headerLine, HeaderLines, addLine, m
 use Rattle.cbf_format.specs.declared.Encoding.{Encoding}
 use Rattle.cbf_format.specs.declared.Encoding.the-variants.{Binary, Base64}
 use Rattle.cbf_format.specs.declared.Description.{Description}
-use Rattle.cbf_format.specs.Descriptions.{Verdict, refuses, describes, verdict, concludedBy, concluded, headers}
+use Rattle.cbf_format.specs.Descriptions.{Verdict, headers-refused, describes, verdict, concludedBy, concluded}
+use Rattle.cbf_format.specs.Descriptions.{headers}
 use Rattle.cbf_format.specs.Base64.{Letters, addSymbols, refusedText, moreText, letters, decode}
 use Rattle.cbf_format.specs.Sections.{closing, marker, Data, lastBoundary, afterSpan, closed, closedAfter}
 use Rattle.cbf_format.specs.Sections.{binaryData, goodText, decoded, blameAt, textClosed, base64Data, dataFor}
@@ -55,7 +56,7 @@ unconclude cut d n e = absurd (cut≢ok e)
 unconclude (ok hs m) d n e = go (verdict hs) refl e
   where
     go : (v : Verdict) → verdict hs ≡ v → concludedBy v m ≡ ok d n → (hs′ : HeaderLines) × (ok hs m ≡ ok hs′ n) × (verdict hs′ ≡ describes d)
-    go (refuses k p) q h = absurd (bad≢ok h)
+    go (headers-refused k p) q h = absurd (bad≢ok h)
     go (describes d′) q h = (hs, cc, q ∙ ap describes (ok-val h))
 
 pub headers-tame : (limit most : ℕ) → Tame (headers limit most)

@@ -18,8 +18,8 @@ use Rattle.cbf_format.specs.Values.{decimalNumber, between, knownHeaders
 use Rattle.cbf_format.specs.declared.Description.{Description}
 use Rattle.cbf_format.specs.Descriptions.{Judged, refused-at, found, ordinal, sameHeader, look, put}
 use Rattle.cbf_format.specs.Descriptions.{judgeHeader, judgeOn as judgedOn, judge, sizeAgrees, dimensionsAgree}
-use Rattle.cbf_format.specs.Descriptions.{optional, orZero, description, agrees, Verdict, refuses, describes}
-use Rattle.cbf_format.specs.Descriptions.{described, verdictOf, verdict}
+use Rattle.cbf_format.specs.Descriptions.{optional, orZero, description, agrees, Verdict, headers-refused}
+use Rattle.cbf_format.specs.Descriptions.{describes, described, verdictOf, verdict}
 use Rattle.cbf_format.proofs.LineTame.{and-true}
 
 -- ---- known headers that are the same
@@ -95,7 +95,7 @@ pub record Known (d : Description) : Type 0 where
   pub agree : dimensionsAgree (optional (d .fastest)) (optional (d .second)) (optional (d .third)) (d .elements) ≡ true
 
 abbrev Sound : Verdict → Type 0
-Sound (refuses k p) = Unit {0}
+Sound (headers-refused k p) = Unit {0}
 Sound (describes d) = Known d × (sizeAgrees (d .compression) (d .kind) (d .size) (d .elements) ≡ true)
 
 verdict-sound : (hs : HeaderLines) → Sound (verdict hs)
@@ -113,7 +113,7 @@ verdict-sound hs = go (judge (group (hs .lines) .headers) []) (judge-valued (gro
         go (some n) q = let v = w k n q in between-most least most (decimalNumber (v .0)) n (sym (b (v .0)) ∙ v .1)
 
     agreed : (e n k : ℕ) (fs : List (KnownHeader × ℕ)) (b : Bool) → agrees (description e n k fs) ≡ b → look Elements fs ≡ some k → Valued fs
-        → Sound (cond b (describes (description e n k fs)) (refuses 7 (hs .empty)))
+        → Sound (cond b (describes (description e n k fs)) (headers-refused 7 (hs .empty)))
     agreed e n k fs true q h w =
         let d = description e n k fs in
         let agreed = dimensionsAgree (optional (d .fastest)) (optional (d .second)) (optional (d .third)) k in

@@ -28,5 +28,5 @@ encode (c1 ∷ c2 ∷ c3 ∷ os) =
     letterOf (c1 / 4) ∷ letterOf (c1 % 4 * 16 + c2 / 16) ∷ letterOf (c2 % 16 * 4 + c3 / 64) ∷ letterOf (c3 % 64) ∷ encode os
 
 -- the same as letters and pads
-abbrev pub written : List ℕ → List Symbol
-written os = addSymbols (encode os) []
+abbrev pub writtenSymbols : List ℕ → List Symbol
+writtenSymbols os = addSymbols (encode os) []

@@ -110,7 +110,7 @@ agrees d =
 -- ---- the description, or a refusal and its place after the boundary line
 
 pub data Verdict : Type 0 where
-  refuses : ℕ → ℕ → Verdict
+  headers-refused : ℕ → ℕ → Verdict
   describes : Description → Verdict
 
 abbrev pub encodingOf : ℕ → Encoding
@@ -134,24 +134,24 @@ description e n k fs =
     (orZero (look Id fs)) (orZero (look Fastest fs)) (orZero (look Second fs)) (orZero (look Third fs))
 
 abbrev pub orDisagrees : ℕ → Description → Verdict
-orDisagrees empty d = cond (agrees d) (describes d) (refuses 7 empty)
+orDisagrees empty d = cond (agrees d) (describes d) (headers-refused 7 empty)
 
 -- "needed one missing .. the empty line"
 abbrev pub described : ℕ → Option ℕ → Option ℕ → Option ℕ → List (KnownHeader × ℕ) → Verdict
 described empty (some e) (some n) (some k) fs = orDisagrees empty (description e n k fs)
-described empty none n k fs = refuses 6 empty
-described empty (some e) none k fs = refuses 6 empty
-described empty (some e) (some n) none fs = refuses 6 empty
+described empty none n k fs = headers-refused 6 empty
+described empty (some e) none k fs = headers-refused 6 empty
+described empty (some e) (some n) none fs = headers-refused 6 empty
 
 abbrev pub verdictOf : ℕ → Judged → Verdict
-verdictOf empty (refused-at p) = refuses 6 p
+verdictOf empty (refused-at p) = headers-refused 6 p
 verdictOf empty (found fs) = described empty (look TransferEncoding fs) (look Size fs) (look Elements fs) fs
 
 unfoldable pub verdict : HeaderLines → Verdict
 verdict hs = verdictOf (hs .empty) (judge (group (hs .lines) .headers) [])
 
 abbrev pub concludedBy : Verdict → ℕ → Res Description
-concludedBy (refuses k p) n = bad k p
+concludedBy (headers-refused k p) n = bad k p
 concludedBy (describes d) n = ok d n
 
 abbrev pub concluded : Res HeaderLines → Res Description

@@ -62,8 +62,8 @@ module _ (at e n : ℕ) where
     where
       go :
           (d : Description) (b : Bool)
-          → readAs (at + e) (at + n) (describedBy (cond b (D.describes d) (D.refuses 7 0)))
-          ≡ headersReadAt at (D.concludedBy (cond b (D.describes d) (D.refuses 7 e)) n)
+          → readAs (at + e) (at + n) (describedBy (cond b (D.describes d) (D.headers-refused 7 0)))
+          ≡ headersReadAt at (D.concludedBy (cond b (D.describes d) (D.headers-refused 7 e)) n)
       go d true = refl
       go d false = refl
 

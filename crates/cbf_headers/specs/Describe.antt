@@ -2,7 +2,7 @@
 use mathlib.Core.Bool.{cond}
 use lib.Dec.{eqb}
 use Prim.Native.Nat.{ℕ, zero, suc}
-use Rattle.cbf_format.specs.Descriptions.{Verdict, refuses, describes}
+use Rattle.cbf_format.specs.Descriptions.{Verdict, headers-refused, describes}
 use Rattle.cbf_headers.specs.declared.describe.Described.{Described}
 use Rattle.cbf_headers.specs.declared.describe.Described.the-variants.{Missing, Disagree, As}
 
@@ -13,5 +13,5 @@ givenOr absent (suc n) = n
 
 -- 7 where counts disagree, else 6 for a header that is missing
 unfoldable pub describedBy : Verdict → Described
-describedBy (refuses k p) = cond (eqb k 7) Disagree Missing
+describedBy (headers-refused k p) = cond (eqb k 7) Disagree Missing
 describedBy (describes d) = As d
