@@ -1,6 +1,5 @@
 // The calls on a file: its sections with their octets and pixels, its listing and its catalogue, a frame replaced;
-// and packing and unpacking alone. No call has a `requires`; the types that their contracts name are handed on with
-// them.
+// and packing. No call has a `requires`; the types that their contracts name are handed on with them.
 pub use cbf_answers::Answer;
 pub use cbf_answers::LINE_LIMIT;
 pub use cbf_answers::Refusal;
