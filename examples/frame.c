@@ -1,16 +1,17 @@
-/* frame FILE [SECTION]
+/* SPDX-License-Identifier: Apache-2.0
+ *
+ * frame FILE [SECTION]
  *
  * Prints the listing of a Crystallographic Binary File, and then how many pixels the frame in one of its sections has, with
  * the least, the greatest and the total of them. Without SECTION it is the first one, if the file has any.
  */
-#include "cbf.h"
+#include <mooringelm.h>
 
 #include <inttypes.h>
 #include <stdio.h>
 #include <stdlib.h>
 
-/* No listing is longer. */
-static uint8_t listing[92672];
+static uint8_t listing[MEL_LISTING_LIMIT];
 
 static void fail(const char *why)
 {
@@ -18,16 +19,17 @@ static void fail(const char *why)
     exit(2);
 }
 
-/* Every call returns a word that holds a refusal number, 0 for none. */
-static void check(uint64_t word)
+/* Every answer has a refusal number, 0 for none. */
+static void check(uint32_t refusal, uint32_t place)
 {
-    if (CBF_REFUSAL(word) != 0) {
-        printf("refused %" PRIu32 " at %" PRIu32 "\n", CBF_REFUSAL(word), CBF_VALUE(word));
+    if (refusal != 0) {
+        printf("refused %" PRIu32 " at %" PRIu32 "\n", refusal, place);
+        fprintf(stderr, "frame: %s\n", mel_refusal_text(refusal));
         exit(1);
     }
 }
 
-/* The whole file, its length in *len. There is one byte more, so that an empty file too has a pointer that is not null. */
+/* The whole file, its length in *len. */
 static uint8_t *read_file(const char *name, size_t *len)
 {
     FILE *in = fopen(name, "rb");
@@ -38,8 +40,8 @@ static uint8_t *read_file(const char *name, size_t *len)
         fail("the file cannot be read");
     rewind(in);
     *len = (size_t)end;
-    file = malloc(*len + 1);
-    if (file == NULL)
+    file = malloc(*len);
+    if (file == NULL && *len > 0)
         fail("not enough memory for the file");
     if (fread(file, 1, *len, in) != *len)
         fail("the file cannot be read");
@@ -67,18 +69,20 @@ static void print_pixels(const int64_t *pixels, size_t count)
     printf("\n");
 }
 
-static void print_frame(const uint8_t *file, size_t len, size_t section)
+static void print_frame(const uint8_t *file, size_t len, size_t number)
 {
-    /* No section has more pixels than the file has bytes. */
-    int64_t *pixels = len < SIZE_MAX / sizeof *pixels ? malloc((len + 1) * sizeof *pixels) : NULL;
-    uint64_t word;
+    mel_section_answer section = mel_section(file, len, number);
+    mel_answer answer;
+    int64_t *pixels;
 
-    if (pixels == NULL)
+    check(section.refusal, section.place);
+    pixels = malloc(section.elements * sizeof *pixels);
+    if (pixels == NULL && section.elements > 0)
         fail("not enough memory for the pixels");
-    word = cbf_unpack(file, len, section, pixels, len);
-    check(word);
-    printf("frame %zu: ", section);
-    print_pixels(pixels, CBF_VALUE(word));
+    answer = mel_unpack(file, len, number, pixels, section.elements);
+    check(answer.refusal, answer.place);
+    printf("frame %zu: ", number);
+    print_pixels(pixels, answer.length);
     free(pixels);
 }
 
@@ -86,21 +90,21 @@ int main(int argc, char **argv)
 {
     size_t len;
     uint8_t *file;
-    uint64_t word;
+    mel_answer answer;
 
     if (argc != 2 && argc != 3)
         fail("usage: frame FILE [SECTION]");
     file = read_file(argv[1], &len);
 
-    word = cbf_listing(file, len, listing, sizeof listing);
-    check(word);
-    fwrite(listing, 1, CBF_VALUE(word), stdout);
+    answer = mel_listing(file, len, listing, sizeof listing);
+    check(answer.refusal, answer.place);
+    fwrite(listing, 1, answer.length, stdout);
 
-    word = cbf_count(file, len);
-    check(word);
+    answer = mel_count(file, len);
+    check(answer.refusal, answer.place);
     if (argc == 3)
         print_frame(file, len, (size_t)strtoull(argv[2], NULL, 10));
-    else if (CBF_VALUE(word) > 0)
+    else if (answer.length > 0)
         print_frame(file, len, 1);
 
     free(file);

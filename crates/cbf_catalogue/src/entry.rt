@@ -14,7 +14,7 @@ ghost use Rattle.cbf_pixels.specs.Octets.{octets};
 ghost use Rattle.cbf_format.specs.Catalogue.{labelWidth, compressionNumber, typeNumber, encodingNumber, label};
 ghost use Rattle.cbf_catalogue.specs.Entry.{entryFor, fourNumbers};
 
-fn compression_number(compression: Compression) -> u8
+pub fn compression_number(compression: Compression) -> u8
     ensures { λ r. ⌜ r ≡ compressionNumber compression ⌝ }
 {
     match compression {
@@ -23,7 +23,7 @@ fn compression_number(compression: Compression) -> u8
     }
 }
 
-fn type_number(kind: ElementType) -> u8
+pub fn type_number(kind: ElementType) -> u8
     ensures { λ r. ⌜ r ≡ typeNumber kind ⌝ }
 {
     match kind {
@@ -36,7 +36,7 @@ fn type_number(kind: ElementType) -> u8
     }
 }
 
-fn encoding_number(encoding: Encoding) -> u8
+pub fn encoding_number(encoding: Encoding) -> u8
     ensures { λ r. ⌜ r ≡ encodingNumber encoding ⌝ }
 {
     match encoding {

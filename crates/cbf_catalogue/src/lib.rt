@@ -4,4 +4,7 @@ mod entry;
 mod little;
 mod write_catalogue;
 
+pub use entry::compression_number;
+pub use entry::encoding_number;
+pub use entry::type_number;
 pub use write_catalogue::catalogue;

@@ -32,7 +32,7 @@ use Rattle.cbf_format.proofs.LineTame.{unoctets}
 use Rattle.cbf_format.proofs.SectionTame.{unconclude, binaryOf, text, base64Of, afterText, unclose}
 use Rattle.cbf_format.proofs.SectionLaws.{word-count, data-says}
 use Rattle.cbf_format.proofs.FileLaws.{Took, took, accepted}
-use Rattle.cbf_format.proofs.VerdictLaws.{known, size-agrees}
+use Rattle.cbf_format.proofs.VerdictLaws.{Known, known, size-agrees}
 
 -- a section's data: what stands behind its headers, at a place of the file
 pub record DataAt (limit : ℕ) (file : List ℕ) (p : Placed) : Type 0 where
@@ -175,6 +175,12 @@ module _ {limit : ℕ} {file : List ℕ} {p : Placed} (d : DataAt limit file p) 
       let s = data-says limit (p .section .description .encoding) (p .section .description .size) (drop (d .at) file) (d .found) (d .took) (d .read-data) in
       omega (arith, d .first, d .inside, s .lead, s .closes .sum)
 
+  -- so is the whole span
+  pub span-in : p .boundary + p .section .width ≤ length file
+  span-in =
+      let s = data-says limit (p .section .description .encoding) (p .section .description .size) (drop (d .at) file) (d .found) (d .took) (d .read-data) in
+      omega (arith, d .end, d .inside, s .closes .sum)
+
   -- BINARY: the octets are a part of the file
   pub binary-octets : p .section .description .encoding ≡ Binary
       → (p .section .octets ≡ slice (position p) (position p + p .section .description .size) file) × (position p + p .section .description .size ≤ length file)
@@ -197,9 +203,13 @@ module _ {limit : ℕ} {file : List ℕ} {p : Placed} (d : DataAt limit file p) 
       ap length (d .octets)
       ∙ data-count limit (p .section .description .encoding) (p .section .description .size) (drop (d .at) file) (d .found) (d .took) (d .read-data)
 
+  -- the bounds of the headers' numbers
+  pub bounded : Known (p .section .description)
+  bounded = known (d .described .0) (p .section .description) (d .described .1)
+
   -- "X-Binary-Number-of-Elements .. 0 to 67,108,864"
   pub few-elements : p .section .description .elements ≤ pixelLimit
-  few-elements = known (d .described .0) (p .section .description) (d .described .1) .few
+  few-elements = bounded .few
 
   -- "uncompressed size = elements × octets per element"
   pub whole-elements : p .section .description .compression ≡ Uncompressed

@@ -9,7 +9,7 @@ use native.Mathlib.Omega.{arith}
 use lib.Dec.{leb}
 use lib.ListN.{getD}
 use borrow.Author.Tests.{leb-true, eqb-true}
-use Rattle.cbf_answers.specs.Limits.{pixelLimit}
+use Rattle.cbf_answers.specs.Limits.{fileLimit, pixelLimit}
 use Rattle.cbf_format.specs.Headers.{Header, HeaderLines, group}
 use Rattle.cbf_format.specs.declared.KnownHeader.{KnownHeader}
 use Rattle.cbf_format.specs.declared.KnownHeader.the-variants.{TransferEncoding, Size, Elements, ContentType}
@@ -91,6 +91,7 @@ pub record Known (d : Description) : Type 0 where
   pub fastest-in : d .fastest ≤ pixelLimit
   pub second-in : d .second ≤ pixelLimit
   pub third-in : d .third ≤ pixelLimit
+  pub size-in : d .size ≤ fileLimit
   pub few : d .elements ≤ pixelLimit
   pub agree : dimensionsAgree (optional (d .fastest)) (optional (d .second)) (optional (d .third)) (d .elements) ≡ true
 
@@ -112,9 +113,10 @@ verdict-sound hs = go (judge (group (hs .lines) .headers) []) (judge-valued (gro
         go none q = omega arith
         go (some n) q = let v = w k n q in between-most least most (decimalNumber (v .0)) n (sym (b (v .0)) ∙ v .1)
 
-    agreed : (e n k : ℕ) (fs : List (KnownHeader × ℕ)) (b : Bool) → agrees (description e n k fs) ≡ b → look Elements fs ≡ some k → Valued fs
+    agreed : (e n k : ℕ) (fs : List (KnownHeader × ℕ)) (b : Bool) → agrees (description e n k fs) ≡ b → look Size fs ≡ some n
+        → look Elements fs ≡ some k → Valued fs
         → Sound (cond b (describes (description e n k fs)) (headers-refused 7 (hs .empty)))
-    agreed e n k fs true q h w =
+    agreed e n k fs true q g h w =
         let d = description e n k fs in
         let agreed = dimensionsAgree (optional (d .fastest)) (optional (d .second)) (optional (d .third)) k in
         let a = and-true (sizeAgrees (d .compression) (d .kind) n k) agreed q in (
@@ -123,22 +125,24 @@ verdict-sound hs = go (judge (group (hs .lines) .headers) []) (judge-valued (gro
             fastest-in = bounds fs w Fastest 1 pixelLimit (λ v. refl);
             second-in = bounds fs w Second 1 pixelLimit (λ v. refl);
             third-in = bounds fs w Third 1 pixelLimit (λ v. refl);
+            size-in = subst (λ (o : Option ℕ). orZero o ≤ fileLimit) g (bounds fs w Size 0 fileLimit (λ v. refl));
             few = subst (λ (o : Option ℕ). orZero o ≤ pixelLimit) h (bounds fs w Elements 0 pixelLimit (λ v. refl));
             agree = a .1;
           },
           a .0,
         )
-    agreed e n k fs false q h w = tt
+    agreed e n k fs false q g h w = tt
 
-    all : (e n k : Option ℕ) (fs : List (KnownHeader × ℕ)) → look Elements fs ≡ k → Valued fs → Sound (described (hs .empty) e n k fs)
-    all (some e) (some n) (some k) fs q w = agreed e n k fs (agrees (description e n k fs)) refl q w
-    all none n k fs q w = tt
-    all (some e) none k fs q w = tt
-    all (some e) (some n) none fs q w = tt
+    all : (e n k : Option ℕ) (fs : List (KnownHeader × ℕ)) → look Size fs ≡ n → look Elements fs ≡ k → Valued fs
+        → Sound (described (hs .empty) e n k fs)
+    all (some e) (some n) (some k) fs p q w = agreed e n k fs (agrees (description e n k fs)) refl p q w
+    all none n k fs p q w = tt
+    all (some e) none k fs p q w = tt
+    all (some e) (some n) none fs p q w = tt
 
     go : (j : Judged) → JudgedValued j → Sound (verdictOf (hs .empty) j)
     go (refused-at p) w = tt
-    go (found fs) w = all (look TransferEncoding fs) (look Size fs) (look Elements fs) fs refl w
+    go (found fs) w = all (look TransferEncoding fs) (look Size fs) (look Elements fs) fs refl refl w
 
 module _ (hs : HeaderLines) (d : Description) (e : verdict hs ≡ describes d) where
   -- every description that headers gave is one

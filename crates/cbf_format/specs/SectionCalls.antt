@@ -2,7 +2,7 @@
 use mathlib.Core.Bool.{cond}
 use mathlib.Core.Option.{Option, none, some}
 use mathlib.Core.List.{List, []}
-use Prim.Native.Nat.{ℕ, _+_}
+use Prim.Native.Nat.{ℕ, _+_, _≤_}
 use lib.Dec.{leb, eqb}
 use lib.ListN.{length}
 use lib.Seq.{slice}
@@ -74,6 +74,11 @@ numberedFields file (N.As s) =
       first = s .first;
       block = slice (s .block .from) (s .block .to) file;
     })
+
+-- the place that the enum's case has for the name lies in the file
+abbrev pub NameInside : List ℕ → Numbered → Type 0
+NameInside file (N.Refused r) = 0 ≤ length file
+NameInside file (N.As s) = (s .block .from ≤ s .block .to) × (s .block .to ≤ length file)
 
 abbrev pub fieldsOf : Placed → Fields
 fieldsOf p =

@@ -32,7 +32,7 @@ use Rattle.cbf_letters.specs.Octets.{GoodText, textOctets, TextOf}
 use Rattle.cbf_format.specs.SectionCalls.{readOutcome, Result, refusal, value, orMissing, sectionNumbered, ofSection}
 use Rattle.cbf_format.specs.SectionCalls.{sectionOutcome, numberedFields, fieldsOf, sectionFields, placedAt, frameOf}
 use Rattle.cbf_format.specs.SectionCalls.{frameFor, frameOutcome, framePixels, OctetsAnswer, octetsFor, octetsIn}
-use Rattle.cbf_format.specs.SectionCalls.{octetsOf, Place, octetsPlace, octetsOutcome, octetsPart}
+use Rattle.cbf_format.specs.SectionCalls.{octetsOf, Place, octetsPlace, octetsOutcome, octetsPart, NameInside}
 use Rattle.cbf_sections.specs.Frame.{FrameOf}
 use Rattle.cbf_format.proofs.Slices.{slice-part}
 use Rattle.cbf_letters.proofs.SectionTexts.{text-of}
@@ -74,6 +74,15 @@ section-fields file n (good its) s e = go (numbered n (sections 0 its)) e
           block = b;
         })) (d .fields)
         ∙ rw (d .block)
+
+pub name-inside : (file : List ℕ) (n : ℕ) (r : Reading (Item F.State S.Section)) (s : Numbered) → NumberedSays file n r s
+    → NameInside file s
+name-inside file n (refused k p) s e = subst (NameInside file) (sym e) (omega arith)
+name-inside file n (good its) s e = go (numbered n (sections 0 its)) e
+  where
+    go : (o : Option Placed) → NumberedIs file o s → NameInside file s
+    go none e = subst (NameInside file) (sym e) (omega arith)
+    go (some p) (t, e, d) = subst (NameInside file) (sym e) (d .block-low, d .block-high)
 
 -- ---- its octets
 

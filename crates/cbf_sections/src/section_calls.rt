@@ -8,8 +8,8 @@ use cbf_format::OctetsPlace;
 use cbf_reader::Count;
 ghost use mathlib.Core.Path.{_≡_};
 ghost use Rattle.cbf_answers.specs.Answers.{outcome};
-ghost use Rattle.cbf_format.specs.SectionCalls.{readOutcome, numberedFields, sectionFields, octetsOf, octetsPlace};
-ghost use Rattle.cbf_format.specs.SectionCalls.{octetsOutcome, octetsPart, placeOf};
+ghost use Rattle.cbf_format.specs.SectionCalls.{readOutcome, numberedFields, sectionFields, NameInside};
+ghost use Rattle.cbf_format.specs.SectionCalls.{octetsOf, octetsPlace, octetsOutcome, octetsPart, placeOf};
 ghost use Rattle.cbf_format.specs.Files as F;
 
 // How many sections the file has: reading's refusal, or their number.
@@ -24,10 +24,11 @@ pub fn read(file: &[u8], limit: usize) -> Answer
 }
 
 // The fields of the section with this number, counted from 1: reading's refusal, 12, or the fields. Where in the file
-// the name of its data block lies is left free; what stands there is the name.
+// the name of its data block lies is left free; that place lies in the file, and what stands there is the name.
 pub fn section(file: &[u8], limit: usize, number: usize) -> Numbered
     ensures answer { λ r. ⌜ numberedFields (now (file .entry)) r ≡ sectionFields (F.read limit (now (file .entry)))
         number ⌝ }
+    ensures name { λ r. ⌜ NameInside (now (file .entry)) r ⌝ }
 {
     cbf_reader::numbered_section(file, limit, number)
 }

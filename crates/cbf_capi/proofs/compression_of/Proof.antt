@@ -1,6 +1,6 @@
 use mathlib.Core.Path.{sym, ap}
 use borrow.Author.Tests.{ne-eqb}
-use Rattle.cbf_capi.specs.Words.{compressed}
+use Rattle.cbf_capi.specs.Boundary.{compressed}
 use Rattle.cbf_capi.proofs.compression_of.Statement.{statement}
 use Rattle.cbf_capi.proofs.compression_of.Tie as tie
 

@@ -1,6 +1,6 @@
 use mathlib.Core.Path.{sym, ap}
 use borrow.Author.Tests.{ne-eqb}
-use Rattle.cbf_capi.specs.Words.{element}
+use Rattle.cbf_capi.specs.Boundary.{element}
 use Rattle.cbf_capi.proofs.element_of.Statement.{statement}
 use Rattle.cbf_capi.proofs.element_of.Tie as tie
 

@@ -1,13 +1,13 @@
 use mathlib.Core.Path.{sym, _∙_}
 use lib.ListN.{length}
-use Rattle.cbf_capi.proofs.Words.{PackSays, pack-halves, pack-unknown, pack-known}
+use Rattle.cbf_capi.proofs.BoundaryLaws.{PackSays, pack-fits, pack-unknown, pack-known}
 use borrow.Author.Needs.{needs}
-use Rattle.cbf_capi.proofs.cbf_pack.Statement.{statement}
-use Rattle.cbf_capi.proofs.cbf_pack.Tie as tie
+use Rattle.cbf_capi.proofs.mel_pack.Statement.{statement}
+use Rattle.cbf_capi.proofs.mel_pack.Tie as tie
 
-word-of-requires : tie.Need-word-of-requires
-word-of-requires c κs = let a = c .before .before .before .before .before .before .before .before .before .args in rw
-    (c .before .before .pack .ensures .0) (pack-halves _ (a .pixels .now) (length (a .out .now)) .fits)
+answer-of-requires : tie.Need-answer-of-requires
+answer-of-requires c κs = let a = c .before .before .before .before .before .before .before .before .before .args in rw
+    (c .before .before .pack .ensures .0) (pack-fits _ (a .pixels .now) (length (a .out .now)))
 
 returns : tie.Need-returns
 unfolding PackSays
@@ -24,11 +24,11 @@ returns-2 c =
     pack-known _ (a .pixels .now) (a .out .now) _
     (sym (c .before .before .before .before .before .before .known .given .1)
     ∙ c .before .before .before .before .before .before .before .before .element-of .ensures) _ _ _
-    (c .word-of .ensures) (E .0) (E .1)
+    (c .answer-of .ensures) (E .0) (E .1)
 
-pub cbf-pack-spec : {M : Type 1} → statement M
-cbf-pack-spec =
+pub mel-pack-spec : {M : Type 1} → statement M
+mel-pack-spec =
     tie.close
     (tie.spec
     (λ c κs. search needs) (λ c. search needs) (λ c κs. search needs) (λ c. search needs)
-    (λ c κs. search needs) word-of-requires returns (λ c. search needs) returns-2)
+    (λ c κs. search needs) answer-of-requires returns (λ c. search needs) returns-2)

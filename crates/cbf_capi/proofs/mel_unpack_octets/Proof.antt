@@ -1,15 +1,15 @@
 use mathlib.Core.Path.{sym, _∙_}
 use lib.ListN.{length}
-use Rattle.cbf_capi.proofs.Words.{UnpackSays, unpack-halves, unpack-no-type, unpack-no-compression}
-use Rattle.cbf_capi.proofs.Words.{unpack-known}
+use Rattle.cbf_capi.proofs.BoundaryLaws.{UnpackSays, unpack-fits, unpack-no-type, unpack-no-compression}
+use Rattle.cbf_capi.proofs.BoundaryLaws.{unpack-known}
 use borrow.Author.Needs.{needs}
-use Rattle.cbf_capi.proofs.cbf_unpack_octets.Statement.{statement}
-use Rattle.cbf_capi.proofs.cbf_unpack_octets.Tie as tie
+use Rattle.cbf_capi.proofs.mel_unpack_octets.Statement.{statement}
+use Rattle.cbf_capi.proofs.mel_unpack_octets.Tie as tie
 
-word-of-requires : tie.Need-word-of-requires
-word-of-requires c κs = let a = c .before .before .before .before .before .before .before .before .before .before
-    .before .before .args in rw (c .before .unpack .ensures .0) (unpack-halves _ _ (a .count) (a .octets .now)
-    (length (a .pixels .now)) .fits)
+answer-of-requires : tie.Need-answer-of-requires
+answer-of-requires c κs = let a = c .before .before .before .before .before .before .before .before .before .before
+    .before .before .args in rw (c .before .unpack .ensures .0) (unpack-fits _ _ (a .count) (a .octets .now)
+    (length (a .pixels .now)))
 
 returns : tie.Need-returns
 unfolding UnpackSays
@@ -38,12 +38,12 @@ returns-3 c =
     ∙ c .before .before .before .before .before .before .before .before .before .before .before .element-of
     .ensures) (sym (c .before .before .before .before .before .compressed-by .given .1)
     ∙ c .before .before .before .before .before .before .before .before .before .before .compression-of .ensures)
-    _ _ _ (c .word-of .ensures) (E .0) (E .1)
+    _ _ _ (c .answer-of .ensures) (E .0) (E .1)
 
-pub cbf-unpack-octets-spec : {M : Type 1} → statement M
-cbf-unpack-octets-spec =
+pub mel-unpack-octets-spec : {M : Type 1} → statement M
+mel-unpack-octets-spec =
     tie.close
     (tie.spec
     (λ c κs. search needs) (λ c κs. search needs) (λ c. search needs) (λ c κs. search needs)
     (λ c. search needs) (λ c. search needs) (λ c κs. search needs) (λ c. search needs) (λ c κs. search needs)
-    word-of-requires returns returns-2 (λ c. search needs) returns-3)
+    answer-of-requires returns returns-2 (λ c. search needs) returns-3)
