@@ -99,52 +99,52 @@ roomed text room h = go (leb (length text) room)
     go false = omega arith
 
 -- the refusals of reading have places of the file
-unread : (file : List ℕ) (k p : ℕ) → read lineLimit file ≡ R.refused k p → Fits (refuses k p)
-unread file k p e = omega (arith, read-limit lineLimit file k p e)
+unread : (limit : ℕ) (file : List ℕ) (k p : ℕ) → read limit file ≡ R.refused k p → Fits (refuses k p)
+unread limit file k p e = omega (arith, read-limit limit file k p e)
 
-pub list-fits : (file : List ℕ) (room : ℕ) → Fits (listOutcome (read lineLimit file) room)
+pub list-fits : (limit : ℕ) (file : List ℕ) (room : ℕ) → limit ≤ 2048 → Fits (listOutcome (read limit file) room)
 unfolding listOutcome
-list-fits file room = go (read lineLimit file) refl
+list-fits limit file room h = go (read limit file) refl
   where
-    go : (r : Reading (Item State Section)) → read lineLimit file ≡ r → Fits (listOutcome r room)
-    go (R.refused k p) e = unread file k p e
-    go (good its) e = roomed (listing (good its)) room (omega (arith, listing-short lineLimit file its e))
+    go : (r : Reading (Item State Section)) → read limit file ≡ r → Fits (listOutcome r room)
+    go (R.refused k p) e = unread limit file k p e
+    go (good its) e = roomed (listing (good its)) room (omega (arith, h, listing-short limit file its e))
 
-pub catalogue-fits : (file : List ℕ) (room : ℕ) → Fits (catalogueOutcome (read lineLimit file) room)
+pub catalogue-fits : (limit : ℕ) (file : List ℕ) (room : ℕ) → Fits (catalogueOutcome (read limit file) room)
 unfolding catalogueOutcome
-catalogue-fits file room = go (read lineLimit file) refl
+catalogue-fits limit file room = go (read limit file) refl
   where
-    named : (its : Tree) → read lineLimit file ≡ good its → (o : Option ℕ) → longName (sections 0 its) ≡ o
+    named : (its : Tree) → read limit file ≡ good its → (o : Option ℕ) → longName (sections 0 its) ≡ o
         → Fits (cataloguedOr o (catalogue (sections 0 its)) room)
-    named its e none q = roomed (catalogue (sections 0 its)) room (omega (arith, catalogue-short lineLimit file its e q))
+    named its e none q = roomed (catalogue (sections 0 its)) room (omega (arith, catalogue-short limit file its e q))
     named its e (some p) q =
-        omega (arith, long-name-place lineLimit file its p e q, accepted lineLimit file its e .not-long)
+        omega (arith, long-name-place limit file its p e q, accepted limit file its e .not-long)
 
-    go : (r : Reading (Item State Section)) → read lineLimit file ≡ r → Fits (catalogueOutcome r room)
-    go (R.refused k p) e = unread file k p e
+    go : (r : Reading (Item State Section)) → read limit file ≡ r → Fits (catalogueOutcome r room)
+    go (R.refused k p) e = unread limit file k p e
     go (good its) e = named its e (longName (sections 0 its)) refl
 
-pub count-fits : (file : List ℕ) → Fits (readOutcome (read lineLimit file))
+pub count-fits : (limit : ℕ) (file : List ℕ) → Fits (readOutcome (read limit file))
 unfolding readOutcome
-count-fits file = go (read lineLimit file) refl
+count-fits limit file = go (read limit file) refl
   where
-    go : (r : Reading (Item State Section)) → read lineLimit file ≡ r → Fits (readOutcome r)
-    go (R.refused k p) e = unread file k p e
-    go (good its) e = omega (arith, few-sections lineLimit file its e)
+    go : (r : Reading (Item State Section)) → read limit file ≡ r → Fits (readOutcome r)
+    go (R.refused k p) e = unread limit file k p e
+    go (good its) e = omega (arith, few-sections limit file its e)
 
 -- what is answered for a section: reading's refusal, 12, or what holds of each section of the file
-section-fits : (file : List ℕ) (n : ℕ) (f : Placed → Outcome)
-    → ((p : Placed) → DataAt lineLimit file p → length file ≤ fileLimit → Fits (f p))
-    → Fits (sectionOutcome (sectionNumbered (read lineLimit file) n) f)
-section-fits file n f each = go (read lineLimit file) refl
+section-fits : (limit : ℕ) (file : List ℕ) (n : ℕ) (f : Placed → Outcome)
+    → ((p : Placed) → DataAt limit file p → length file ≤ fileLimit → Fits (f p))
+    → Fits (sectionOutcome (sectionNumbered (read limit file) n) f)
+section-fits limit file n f each = go (read limit file) refl
   where
-    go : (r : Reading (Item State Section)) → read lineLimit file ≡ r → Fits (sectionOutcome (sectionNumbered r n) f)
-    go (R.refused k p) e = unread file k p e
+    go : (r : Reading (Item State Section)) → read limit file ≡ r → Fits (sectionOutcome (sectionNumbered r n) f)
+    go (R.refused k p) e = unread limit file k p e
     go (good its) e = by (numbered n (sections 0 its)) refl
       where
         by : (o : Option Placed) → numbered n (sections 0 its) ≡ o → Fits (sectionOutcome (orMissing o) f)
         by none q = omega arith
-        by (some p) q = each p (data-at lineLimit n file its p e q) (accepted lineLimit file its e .not-long)
+        by (some p) q = each p (data-at limit n file its p e q) (accepted limit file its e .not-long)
 
 -- the number of octets, as an answer for the section
 octets-answer : (r : Result Placed) (f : Placed → Result OctetsAnswer)
@@ -152,28 +152,28 @@ octets-answer : (r : Result Placed) (f : Placed → Result OctetsAnswer)
 octets-answer (refusal k p) f = refl
 octets-answer (value p) f = refl
 
-octets-fits : (file : List ℕ) (n : ℕ) → Fits (octetsOutcome (octetsOf (read lineLimit file) n))
+octets-fits : (limit : ℕ) (file : List ℕ) (n : ℕ) → Fits (octetsOutcome (octetsOf (read limit file) n))
 unfolding octetsOf
-octets-fits file n =
-    subst Fits (octets-answer (sectionNumbered (read lineLimit file) n) _)
-    (section-fits file n _ (λ p d l. go p d l (p .section .description .encoding) refl))
+octets-fits limit file n =
+    subst Fits (octets-answer (sectionNumbered (read limit file) n) _)
+    (section-fits limit file n _ (λ p d l. go p d l (p .section .description .encoding) refl))
   where
-    go : (p : Placed) → DataAt lineLimit file p → length file ≤ fileLimit → (e : Encoding)
+    go : (p : Placed) → DataAt limit file p → length file ≤ fileLimit → (e : Encoding)
         → p .section .description .encoding ≡ e → Fits (octetsOutcome (octetsFor e (position p) (p .section .octets)))
     go p d l Binary q = omega (arith, octet-count d, binary-octets d q .1)
     go p d l Base64 q = omega arith
 
-pub frame-fits : (file : List ℕ) (n room : ℕ) → Fits (frameOutcome (read lineLimit file) n room)
+pub frame-fits : (limit : ℕ) (file : List ℕ) (n room : ℕ) → Fits (frameOutcome (read limit file) n room)
 unfolding frameOutcome
-frame-fits file n room =
-    section-fits file n _ (λ p d l.
+frame-fits limit file n room =
+    section-fits limit file n _ (λ p d l.
     picked (isSome (frameOf p)) _ _ (omega (arith, position-in d)) (λ a.
     tested (leb (p .section .description .elements) room) _ 15 (λ b.
     omega (arith, few-elements d))))
 
-pub replace-fits : (file : List ℕ) (n : ℕ) (frame : List ℤ) (room : ℕ) → Fits (replaceOutcome file (read lineLimit file) n frame room)
+pub replace-fits : (limit : ℕ) (file : List ℕ) (n : ℕ) (frame : List ℤ) (room : ℕ) → Fits (replaceOutcome file (read limit file) n frame room)
 unfolding replaceOutcome replaceFitting replacePacked roomForFile
-replace-fits file n frame room = section-fits file n _ (λ p d l. go p (p .section .description .encoding))
+replace-fits limit file n frame room = section-fits limit file n _ (λ p d l. go p (p .section .description .encoding))
   where
     go : (p : Placed) (e : Encoding) → Fits (replaceFor e (p .section .description) frame (replacedFile file p (packByteOffset frame)) room)
     go p Binary =
@@ -196,13 +196,13 @@ place-returned (refusal k p) = refl
 place-returned (value o) = refl
 
 -- the place that the code answers, and what the call then answers
-module _ (file : List ℕ) (n : ℕ) {x : Result Place} (is : x ≡ octetsPlace (octetsOf (read lineLimit file) n)) where
+module _ (limit : ℕ) (file : List ℕ) (n : ℕ) {x : Result Place} (is : x ≡ octetsPlace (octetsOf (read limit file) n)) where
   pub place-fits : Fits (placeOutcome x)
   place-fits =
-      rw (ap placeOutcome is ∙ place-outcome (octetsOf (read lineLimit file) n)) (octets-fits file n)
+      rw (ap placeOutcome is ∙ place-outcome (octetsOf (read limit file) n)) (octets-fits limit file n)
 
-  pub octets-say : placeReturned x ≡ returnedOctets (octetsOf (read lineLimit file) n)
-  octets-say = ap placeReturned is ∙ place-returned (octetsOf (read lineLimit file) n)
+  pub octets-say : placeReturned x ≡ returnedOctets (octetsOf (read limit file) n)
+  octets-say = ap placeReturned is ∙ place-returned (octetsOf (read limit file) n)
 
 -- ---- the fields of a section
 
@@ -211,7 +211,7 @@ abbrev FieldsFit : List ℕ → Result Fields → Type 0
 FieldsFit file (refusal k p) = p < 2 ^ 32
 FieldsFit file (value f) = Narrow (f .description) (f .boundary) (f .end) (f .first) × (length file < 2 ^ 32)
 
-narrow : {file : List ℕ} {p : Placed} → DataAt lineLimit file p → length file ≤ fileLimit
+narrow : {limit : ℕ} {file : List ℕ} {p : Placed} → DataAt limit file p → length file ≤ fileLimit
     → Narrow (p .section .description) (p .boundary) (p .boundary + p .section .width) (position p)
 narrow d l =
     let k = bounded d in
@@ -227,33 +227,33 @@ narrow d l =
       third-fits = omega (arith, k .third-in);
     }
 
-fields-fit : (file : List ℕ) (n : ℕ) → FieldsFit file (sectionFields (read lineLimit file) n)
+fields-fit : (limit : ℕ) (file : List ℕ) (n : ℕ) → FieldsFit file (sectionFields (read limit file) n)
 unfolding sectionFields
-fields-fit file n = go (read lineLimit file) refl
+fields-fit limit file n = go (read limit file) refl
   where
-    go : (r : Reading (Item State Section)) → read lineLimit file ≡ r
+    go : (r : Reading (Item State Section)) → read limit file ≡ r
         → FieldsFit file (ofSection (sectionNumbered r n) (λ p. value (fieldsOf p)))
-    go (R.refused k p) e = unread file k p e
+    go (R.refused k p) e = unread limit file k p e
     go (good its) e = by (numbered n (sections 0 its)) refl
       where
         by : (o : Option Placed) → numbered n (sections 0 its) ≡ o
             → FieldsFit file (ofSection (orMissing o) (λ p. value (fieldsOf p)))
         by none q = omega arith
         by (some p) q =
-            let l = accepted lineLimit file its e .not-long in
-            (narrow (data-at lineLimit n file its p e q) l, omega (arith, l))
+            let l = accepted limit file its e .not-long in
+            (narrow (data-at limit n file its p e q) l, omega (arith, l))
 
 -- the section that the code answers, and what the call then answers
-module _ (file : List ℕ) (n : ℕ) (x : Numbered) (is : numberedFields file x ≡ sectionFields (read lineLimit file) n)
+module _ (limit : ℕ) (file : List ℕ) (n : ℕ) (x : Numbered) (is : numberedFields file x ≡ sectionFields (read limit file) n)
     (inside : NameInside file x) where
   fit : FieldsFit file (numberedFields file x)
-  fit = subst (FieldsFit file) (sym is) (fields-fit file n)
+  fit = subst (FieldsFit file) (sym is) (fields-fit limit file n)
 
   unfoldable pub SectionSays : MelSectionAnswer → Type 0
   SectionSays r =
-      (r ≡ returnedSection (r .«name_start») (sectionFields (read lineLimit file) n))
+      (r ≡ returnedSection (r .«name_start») (sectionFields (read limit file) n))
       × ((slice (r .«name_start») (r .«name_start» + r .«name_length») file
-      ≡ blockName (sectionFields (read lineLimit file) n))
+      ≡ blockName (sectionFields (read limit file) n))
       × (r .«name_start» + r .«name_length» ≤ length file))
 
   -- there is none
@@ -264,7 +264,7 @@ module _ (file : List ℕ) (n : ℕ) (x : Numbered) (is : numberedFields file x 
     pub refused-says : {r : MelSectionAnswer} → r ≡ sectionRefused (t .number) (t .place) → SectionSays r
     unfolding SectionSays
     refused-says e =
-        let q : refusal (t .number) (t .place) ≡ sectionFields (read lineLimit file) n = sym (ap (numberedFields file) same) ∙ is in
+        let q : refusal (t .number) (t .place) ≡ sectionFields (read limit file) n = sym (ap (numberedFields file) same) ∙ is in
         rw (e, ← q) (refl, (refl, omega arith))
 
   -- it is the code's
@@ -272,8 +272,8 @@ module _ (file : List ℕ) (n : ℕ) (x : Numbered) (is : numberedFields file x 
     in-file : (s .block .from ≤ s .block .to) × (s .block .to ≤ length file)
     in-file = subst (NameInside file) same inside
 
-    pub section-fits-c : NarrowSection s
-    section-fits-c =
+    pub narrow-section : NarrowSection s
+    narrow-section =
         let f = subst (λ (z : Numbered). FieldsFit file (numberedFields file z)) same fit in
         record { numbers = f .0; name-low = in-file .0; name-high = omega (arith, f .1, in-file .1) }
 
@@ -282,7 +282,7 @@ module _ (file : List ℕ) (n : ℕ) (x : Numbered) (is : numberedFields file x 
         → SectionSays r
     unfolding SectionSays
     section-says e =
-        let q : numberedFields file (N.As s) ≡ sectionFields (read lineLimit file) n = sym (ap (numberedFields file) same) ∙ is in
+        let q : numberedFields file (N.As s) ≡ sectionFields (read limit file) n = sym (ap (numberedFields file) same) ∙ is in
         let m : s .block .from + (s .block .to - s .block .from) ≡ s .block .to = omega (arith, in-file .0) in
         let l : length (slice (s .block .from) (s .block .to) file) ≡ s .block .to - s .block .from
         = length-slice (s .block .from) (s .block .to) file (in-file .1) in

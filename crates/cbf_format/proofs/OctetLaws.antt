@@ -30,7 +30,7 @@ use Rattle.cbf_format.specs.Listing.{Placed, addPlaced, sections, number
 use Rattle.cbf_format.proofs.Slices.{slice-take}
 use Rattle.cbf_format.proofs.LineTame.{unoctets}
 use Rattle.cbf_format.proofs.SectionTame.{unconclude, binaryOf, text, base64Of, afterText, unclose}
-use Rattle.cbf_format.proofs.SectionLaws.{word-count, data-says}
+use Rattle.cbf_format.proofs.SectionLaws.{word-count, DataSays, data-says}
 use Rattle.cbf_format.proofs.FileLaws.{Took, took, accepted}
 use Rattle.cbf_format.proofs.VerdictLaws.{Known, known, size-agrees}
 
@@ -169,17 +169,18 @@ data-count limit Base64 size s d n e = base64-count limit size s d n e
 -- ---- a section and its octets
 
 module _ {limit : ℕ} {file : List ℕ} {p : Placed} (d : DataAt limit file p) where
+  says : DataSays limit (drop (d .at) file) (d .found) (d .took)
+  says =
+      let x = p .section .description in
+      data-says limit (x .encoding) (x .size) (drop (d .at) file) (d .found) (d .took) (d .read-data)
+
   -- the first octet is in the file
   pub position-in : position p ≤ length file
-  position-in =
-      let s = data-says limit (p .section .description .encoding) (p .section .description .size) (drop (d .at) file) (d .found) (d .took) (d .read-data) in
-      omega (arith, d .first, d .inside, s .lead, s .closes .sum)
+  position-in = omega (arith, d .first, d .inside, says .lead, says .closes .sum)
 
   -- so is the whole span
   pub span-in : p .boundary + p .section .width ≤ length file
-  span-in =
-      let s = data-says limit (p .section .description .encoding) (p .section .description .size) (drop (d .at) file) (d .found) (d .took) (d .read-data) in
-      omega (arith, d .end, d .inside, s .closes .sum)
+  span-in = omega (arith, d .end, d .inside, says .closes .sum)
 
   -- BINARY: the octets are a part of the file
   pub binary-octets : p .section .description .encoding ≡ Binary

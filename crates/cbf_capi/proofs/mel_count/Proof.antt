@@ -7,7 +7,7 @@ use Rattle.cbf_capi.proofs.mel_count.Statement.{statement}
 use Rattle.cbf_capi.proofs.mel_count.Tie as tie
 
 answer-of-requires : tie.Need-answer-of-requires
-answer-of-requires c κs = rw (c .read .ensures) (count-fits (c .before .before .args .file .now))
+answer-of-requires c κs = rw (c .read .ensures) (count-fits _ (c .before .before .args .file .now))
 
 returns : tie.Need-returns
 returns c = c .answer-of .ensures ∙ ap returned (c .before .read .ensures)

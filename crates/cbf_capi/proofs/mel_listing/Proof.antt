@@ -8,7 +8,7 @@ use Rattle.cbf_capi.proofs.mel_listing.Tie as tie
 
 answer-of-requires : tie.Need-answer-of-requires
 answer-of-requires c κs = let a = c .before .before .before .before .before .before .args in rw
-    (c .before .before .list .ensures .0) (list-fits (a .file .now) (length (a .out .now)))
+    (c .before .before .list .ensures .0) (list-fits _ (a .file .now) (length (a .out .now)) (omega arith))
 
 returns : tie.Need-returns
 returns c = let E = c .before .before .before .list .ensures in (c .answer-of .ensures ∙ ap returned (E .0), E .1)

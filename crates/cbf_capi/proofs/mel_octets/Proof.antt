@@ -10,7 +10,7 @@ cast-t8 : tie.Need-cast-t8
 cast-t8 c =
     let a = c .before .before .before .before .before .before .args in
     record {
-      fits = place-fits (a .file .now) (a .section)
+      fits = place-fits _ (a .file .now) (a .section)
           (ap placeOf (sym (c .before .before .place .given .1)) ∙ c .before .before .before .before .octets-at .ensures);
     }
 
@@ -18,20 +18,20 @@ cast-t9 : tie.Need-cast-t9
 cast-t9 c =
     let a = c .before .before .before .before .before .args in
     record {
-      fits = place-fits (a .file .now) (a .section)
+      fits = place-fits _ (a .file .now) (a .section)
           (ap placeOf (sym (c .before .place2 .given .1)) ∙ c .before .before .before .octets-at .ensures);
     }
 
 returns : tie.Need-returns
 returns c =
     let a = c .before .before .before .before .before .before .args in
-    octets-say (a .file .now) (a .section)
+    octets-say _ (a .file .now) (a .section)
     (ap placeOf (sym (c .before .before .place .given .1)) ∙ c .before .before .before .before .octets-at .ensures)
 
 returns-2 : tie.Need-returns-2
 returns-2 c =
     let a = c .before .before .before .before .before .args in
-    octets-say (a .file .now) (a .section)
+    octets-say _ (a .file .now) (a .section)
     (ap placeOf (sym (c .before .place2 .given .1)) ∙ c .before .before .before .octets-at .ensures)
 
 pub mel-octets-spec : {M : Type 1} → statement M
