@@ -1,15 +1,14 @@
 //! The library's answers on whole files against the reader's: the vectors, files by chance, and damaged ones. Canaries stand
-//! as in compare.rs.
+//! as in pixels.rs.
 
-use crate::cbf::{self, Answer};
-use crate::compare::differ;
-use crate::compare_replacements::{self, Tally as Replacements};
-use crate::compare_sections::{self, Tally as Sections};
-use crate::damage::damage;
-use crate::files;
-use crate::frames::Random;
-use crate::reader::{self, Read, Refusal};
-use crate::vectors;
+use super::replacements::{self, Tally as Replacements};
+use super::sections::{self, Tally as Sections};
+use super::{calls, differ};
+use crate::inputs::damage::damage;
+use crate::inputs::random::Random;
+use crate::inputs::{files, vectors};
+use crate::reference::reader::{self, Read, Refusal};
+use mooringelm::raw::Answer;
 
 const GOOD: usize = 12_000;
 const DAMAGED: usize = 15_000;
@@ -50,14 +49,14 @@ fn check_room(call: Call, file: &[u8], said: &Said, room: usize, random: &mut Ra
     let mut out = before.clone();
     let got = call(file, &mut out);
     let mut after = before;
-    let answer: Answer = match said {
+    let answer = calls::answer(match said {
         Err(refusal) => Err(*refusal),
         Ok(listing) if listing.len() > room => Err((15, 0)),
         Ok(listing) => {
             after[..listing.len()].copy_from_slice(listing);
             Ok(listing.len())
         }
-    };
+    });
     if got != answer || out != after {
         let memory = if out == after { "right" } else { "wrong" };
         differ(format!(
@@ -82,9 +81,9 @@ fn check_rooms(call: Call, file: &[u8], said: &Said, random: &mut Random) -> usi
 
 /// All calls on a file; tells how many write bytes.
 fn check(file: &[u8], read: &Read, random: &mut Random, sections: &mut Sections) -> usize {
-    compare_sections::check(file, read, random, sections);
-    check_rooms(cbf::listing, file, &listed(read), random)
-        + check_rooms(cbf::catalogue, file, &catalogued(read), random)
+    sections::check(file, read, random, sections);
+    check_rooms(calls::listing, file, &listed(read), random)
+        + check_rooms(calls::catalogue, file, &catalogued(read), random)
 }
 
 /// One damage, mostly.
@@ -116,7 +115,7 @@ impl Run {
         self.tallies[kind as usize].take(&read);
         let styles = matches!(kind, Kind::Given);
         let (random, tally) = (&mut self.random, &mut self.replacements);
-        compare_replacements::check(file, &read, styles, random, tally);
+        replacements::check(file, &read, styles, random, tally);
         check(file, &read, &mut self.random, &mut self.sections)
     }
 

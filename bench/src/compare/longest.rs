@@ -1,9 +1,9 @@
-//! Replacements whose result is as long as a file may be, and one byte longer.
+//! Replacements whose result is as long as a file may be, and one byte longer; the fields of sections at far places.
 
-use crate::cbf;
-use crate::compare::differ;
-use crate::reader::{self, FILE_LIMIT};
-use crate::replacement;
+use super::sections::check_fields;
+use super::{calls, differ};
+use crate::reference::reader::{self, FILE_LIMIT};
+use crate::reference::replacement;
 
 /// Room beyond the limit.
 const MORE: usize = 64;
@@ -59,8 +59,8 @@ fn untouched(memory: &[u8]) -> bool {
 }
 
 fn check_refused(file: &[u8], frame: &[i64], out: &mut [u8], room: usize) {
-    let got = cbf::replace(file, 1, frame, &mut out[..room]);
-    if got != Err((15, 0)) || !untouched(out) {
+    let got = calls::replace(file, 1, frame, &mut out[..room]);
+    if got != calls::answer(Err((15, 0))) || !untouched(out) {
         differ(format!(
             "replace in {} bytes, room {room}: {got:?}, and not 15, or memory changed",
             file.len()
@@ -85,11 +85,15 @@ pub fn all() -> usize {
     }
     let file = file(longest);
     check_refused(&file, &frame, &mut out, FILE_LIMIT - 1);
-    let edit = replacement::edit(&file, &reader::read(&file), 1, &frame).expect("it fits");
-    let got = cbf::replace(&file, 1, &frame, &mut out);
+    let read = reader::read(&file);
+    for number in 0..=4 {
+        check_fields(&file, &read, number);
+    }
+    let edit = replacement::edit(&file, &read, 1, &frame).expect("it fits");
+    let got = calls::replace(&file, 1, &frame, &mut out);
     let (result, beyond) = out.split_at(FILE_LIMIT);
-    if got != Ok(FILE_LIMIT) || !edit.gives(&file, result) || !untouched(beyond) {
+    if got != calls::answer(Ok(FILE_LIMIT)) || !edit.gives(&file, result) || !untouched(beyond) {
         differ(format!("replace to the longest file: {got:?}, or memory"));
     }
-    4
+    4 + 2 * 5
 }

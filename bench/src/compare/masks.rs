@@ -1,12 +1,9 @@
 //! What a user does: in a file of forty frames, masks on two of them, in both orders.
 
-use crate::cbf;
-use crate::compare::differ;
-use crate::frames::{self, HEIGHT, WIDTH};
-use crate::large;
-use crate::reader;
-use crate::reference;
-use crate::replacement;
+use super::differ;
+use crate::inputs::frames::{self, HEIGHT, WIDTH};
+use crate::inputs::large;
+use crate::reference::{pixels, reader, replacement};
 
 const FRAMES: usize = 40;
 
@@ -30,9 +27,9 @@ fn masked(frame: &[i64], [column, row, width, height]: [usize; 4]) -> Vec<i64> {
 /// The library's file with that frame replaced.
 fn replaced(file: &[u8], (number, frame): (usize, &[i64])) -> Vec<u8> {
     let mut out = vec![0; file.len() + 1_000 + 15 * frame.len()];
-    match cbf::replace(file, number, frame, &mut out) {
+    match mooringelm::replace(file, number, frame, &mut out) {
         Ok(length) => out.truncate(length),
-        Err(refusal) => differ(format!("mask on frame {number}: refused {refusal:?}")),
+        Err(refusal) => differ(format!("mask on frame {number}: {refusal}")),
     }
     out
 }
@@ -52,10 +49,10 @@ fn check_frames(file: &[u8], result: &[u8], frames: &[Vec<i64>]) {
     let mut pixels = vec![0; WIDTH * HEIGHT];
     for (index, frame) in frames.iter().enumerate() {
         let number = index + 1;
-        if cbf::unpack(result, number, &mut pixels) != Ok(frame.len()) || &pixels != frame {
+        if mooringelm::unpack(result, number, &mut pixels) != Ok(frame.len()) || &pixels != frame {
             differ(format!("masks: frame {number} is not read back"));
         }
-        let changed = cbf::octets(result, number) != cbf::octets(file, number);
+        let changed = mooringelm::octets(result, number) != mooringelm::octets(file, number);
         if changed != MASKS.iter().any(|mask| mask.0 == number) {
             differ(format!("masks: the octets of frame {number}"));
         }
@@ -70,7 +67,7 @@ pub fn all() -> usize {
 
 fn compare() -> usize {
     let mut frames: Vec<Vec<i64>> = (0..FRAMES).map(frames::exposure).collect();
-    let packed = frames.iter().map(|f| reference::pack(6, f, usize::MAX));
+    let packed = frames.iter().map(|f| pixels::pack(6, f, usize::MAX));
     let octets: Vec<Vec<u8>> = packed
         .map(|octets| octets.expect("pixels of s32"))
         .collect();
@@ -86,7 +83,7 @@ fn compare() -> usize {
     if result != both_replaced(&file, new) {
         differ("masks: the result is not the reference's".into());
     }
-    if cbf::count(&result) != Ok(FRAMES) {
+    if mooringelm::count(&result) != Ok(FRAMES) {
         differ("masks: the result has other sections".into());
     }
     check_frames(&file, &result, &frames);

@@ -1,25 +1,10 @@
-//! The library's answers against the reference's, with the contents of every lent slice: canaries stand beyond the answer, and
-//! in all of it where the call is refused.
+//! The library's answers on pixels against the reference's, with the contents of every lent slice: canaries stand beyond
+//! the answer, and in all of it where the call is refused.
 
-use crate::cbf;
-use crate::frames::Random;
-use crate::reference;
-
-/// Numbers at the edges of the widths and of the types.
-const EDGES: [i64; 12] = [
-    0,
-    1,
-    127,
-    128,
-    255,
-    256,
-    32_767,
-    32_768,
-    65_535,
-    2_147_483_647,
-    2_147_483_648,
-    4_294_967_295,
-];
+use super::{calls, differ};
+use crate::inputs::chance::{overlong, pixels};
+use crate::inputs::random::Random;
+use crate::reference::pixels as reference;
 
 /// So many octets are shown of those that make a difference.
 const SHOWN: usize = 20_000;
@@ -32,19 +17,19 @@ pub fn canaries(random: &mut Random, n: usize) -> Vec<i64> {
 pub fn check_pack(element_type: u8, pixels: &[i64], room: usize, random: &mut Random) -> u32 {
     let before: Vec<u8> = (0..room).map(|_| random.next() as u8).collect();
     let mut out = before.clone();
-    let got = cbf::pack(element_type, pixels, &mut out);
+    let got = calls::pack(element_type, pixels, &mut out);
     let expected = reference::pack(element_type, pixels, room);
     let mut after = before;
-    let answer = expected.map(|octets| {
+    let answer = calls::answer(expected.map(|octets| {
         after[..octets.len()].copy_from_slice(&octets);
         octets.len()
-    });
+    }));
     if got != answer || out != after {
         differ(format!(
             "pack type {element_type} room {room} pixels {pixels:?}: {got:?}, and not {answer:?}"
         ));
     }
-    answer.map_or_else(|(number, _)| number, |_| 0)
+    answer.refusal
 }
 
 /// The refusal's number, or 0.
@@ -58,61 +43,20 @@ pub fn check_unpack(
 ) -> u32 {
     let before = canaries(random, room);
     let mut out = before.clone();
-    let got = cbf::unpack_octets(element_type, compression, octets, count, &mut out);
+    let got = calls::unpack_octets(element_type, compression, octets, count, &mut out);
     let expected = reference::unpack(element_type, compression, octets, count, room);
     let mut after = before;
-    let answer = expected.map(|pixels| {
+    let answer = calls::answer(expected.map(|pixels| {
         after[..pixels.len()].copy_from_slice(&pixels);
         pixels.len()
-    });
+    }));
     if got != answer || out != after {
         let (shown, size) = (&octets[..octets.len().min(SHOWN)], octets.len());
         differ(format!(
             "unpack type {element_type} compression {compression} count {count} room {room} {size} octets {shown:02x?}: {got:?}, and not {answer:?}"
         ));
     }
-    answer.map_or_else(|(number, _)| number, |_| 0)
-}
-
-/// Tells of the first difference, and ends the run.
-pub fn differ(what: String) -> ! {
-    println!("DIFFERENT: {what}");
-    std::process::exit(1)
-}
-
-/// A pixel of the type, in one of several ways.
-fn pixel(way: usize, last: i64, least: i64, greatest: i64, random: &mut Random) -> i64 {
-    let edge = EDGES[random.below(EDGES.len())] * if random.below(2) == 0 { 1 } else { -1 };
-    let size = greatest - least + 1;
-    let p = match way {
-        0 => last + random.below(9) as i64 - 4,
-        1 => last + random.below(255) as i64 - 127,
-        2 => last + edge,
-        3 => edge,
-        4 => least + (random.next() % size as u64) as i64,
-        _ => [least, greatest, 0][random.below(3)],
-    };
-    p.clamp(least, greatest)
-}
-
-/// Pixels from least to greatest, near to each other and far.
-pub fn pixels(n: usize, least: i64, greatest: i64, random: &mut Random) -> Vec<i64> {
-    let way = random.below(8);
-    let mut last = 0;
-    (0..n)
-        .map(|_| {
-            // Ways 6 and 7 are mostly plain, with one far pixel now and then.
-            let at = if way < 6 {
-                way
-            } else if random.below(40) == 0 {
-                2
-            } else {
-                way - 6
-            };
-            last = pixel(at, last, least, greatest, random);
-            last
-        })
-        .collect()
+    answer.refusal
 }
 
 /// Room too small by one, exact, larger, and none.
@@ -143,23 +87,6 @@ fn damage(octets: &mut Vec<u8>, random: &mut Random) {
         }
         _ => octets.push(random.next() as u8),
     }
-}
-
-/// Octets of pixels, some of them wider than they need to be.
-pub fn overlong(pixels: &[i64], random: &mut Random) -> Vec<u8> {
-    let mut octets = Vec::new();
-    let mut last = 0;
-    let often = 1 + random.below(50);
-    for &p in pixels {
-        let narrowest = if random.below(often) == 0 {
-            random.below(4)
-        } else {
-            0
-        };
-        reference::put_difference(p - last, narrowest, &mut octets);
-        last = p;
-    }
-    octets
 }
 
 /// A frame's octets: whole, wider than they need to be, as another type's, and damaged; tells how many calls.

@@ -1,7 +1,7 @@
 //! The program cbf_list, run on the vectors and on files at the edge of its buffer, against what it is to print.
 
-use crate::compare::differ;
-use crate::vectors;
+use super::differ;
+use crate::inputs::vectors;
 use std::io::Write;
 use std::process::{Command, Stdio};
 

@@ -1,13 +1,14 @@
 //! The library's replacements against the reference's. What is lent stands in a longer slice of canaries: all of that is
 //! compared, so that a byte before it, after it, or beyond the answer shows.
 
-use crate::cbf::{self, Answer};
-use crate::compare::{differ, pixels};
-use crate::frames::Random;
-use crate::reader::{self, Read, Refusal, Section};
-use crate::reference::range;
-use crate::replacement::{self, Edit};
-use crate::transcript::frame;
+use super::{calls, differ};
+use crate::inputs::chance::pixels;
+use crate::inputs::random::Random;
+use crate::inputs::vectors::frame;
+use crate::reference::pixels::{range, TYPES};
+use crate::reference::reader::{self, Read, Refusal, Section};
+use crate::reference::replacement::{self, Edit};
+use mooringelm::raw::Answer;
 
 /// Canaries on each side of what is lent, at most.
 const BESIDE: usize = 64;
@@ -15,7 +16,7 @@ const BESIDE: usize = 64;
 /// Of a file with more sections, so many are replaced.
 const SOME: usize = 6;
 
-/// What include/cbf.h says is always enough: so many bytes above the file's length, and so many for each pixel.
+/// What include/mooringelm.h says is always enough: so many bytes above the file's length, and so many for each pixel.
 const MORE: usize = 1_000;
 const A_PIXEL: usize = 15;
 
@@ -38,9 +39,7 @@ pub struct Tally {
 impl Tally {
     fn answer(&mut self, answer: Answer) {
         self.calls += 1;
-        if let Err((number, _)) = answer {
-            self.refused[number as usize] += 1;
-        }
+        self.refused[answer.refusal as usize] += 1;
     }
 
     fn written(&mut self, section: &Section) {
@@ -55,7 +54,7 @@ impl Tally {
         let [uncompressed, byte_offset] = self.over;
         print!("{} of the calls are replacements;", self.calls);
         print!(" frames over uncompressed {uncompressed}, over byte offset {byte_offset};");
-        for (name, times) in crate::TYPES.iter().zip(self.types) {
+        for (name, times) in TYPES.iter().zip(self.types) {
             print!(" {name} {times}");
         }
         print!("; without ID {}, with {};", self.ids[0], self.ids[1]);
@@ -126,13 +125,13 @@ impl<'c> Call<'c> {
         let (before, after) = (1 + random.below(BESIDE), 1 + random.below(BESIDE));
         let mut expected = noise(before + room + after, random);
         let mut memory = expected.clone();
-        let got = cbf::replace(
+        let got = calls::replace(
             self.file,
             self.number,
             self.frame,
             &mut memory[before..][..room],
         );
-        let answer: Answer = match &self.expected {
+        let answer = calls::answer(match &self.expected {
             Err(refusal) => Err(*refusal),
             Ok(edit) if edit.length(self.file) > room => Err((15, 0)),
             Ok(edit) => {
@@ -140,7 +139,7 @@ impl<'c> Call<'c> {
                 expected[before..][..result.len()].copy_from_slice(&result);
                 Ok(result.len())
             }
-        };
+        });
         tally.answer(answer);
         if got != answer || memory != expected {
             let memory = if memory == expected { "right" } else { "wrong" };
@@ -177,9 +176,9 @@ impl<'c> Call<'c> {
     fn check_read_back(&self, tally: &mut Tally) {
         if let Ok(edit) = &self.expected {
             let mut pixels = vec![0; self.frame.len()];
-            let answer = cbf::unpack(&edit.made(self.file), self.number, &mut pixels);
+            let answer = calls::unpack(&edit.made(self.file), self.number, &mut pixels);
             tally.answer(answer);
-            if answer != Ok(self.frame.len()) || pixels != self.frame {
+            if answer != calls::answer(Ok(self.frame.len())) || pixels != self.frame {
                 self.differs(&format!("read back {answer:?}"));
             }
         }
@@ -257,15 +256,15 @@ fn check_numbers(file: &[u8], read: &Read, random: &mut Random, tally: &mut Tall
 /// The file that the library makes, with as much room as is always enough.
 fn made(file: &[u8], number: usize, frame: &[i64], tally: &mut Tally) -> Vec<u8> {
     let mut out = vec![0; file.len() + MORE + A_PIXEL * frame.len()];
-    let answer = cbf::replace(file, number, frame, &mut out);
+    let answer = calls::replace(file, number, frame, &mut out);
     tally.answer(answer);
-    match answer {
-        Ok(length) => out.truncate(length),
-        Err(refusal) => differ(format!(
-            "order: replace {number} is refused {refusal:?}; the file is {}",
+    if answer.refusal != 0 {
+        differ(format!(
+            "order: replace {number} says {answer:?}; the file is {}",
             file.escape_ascii()
-        )),
+        ));
     }
+    out.truncate(answer.length as usize);
     out
 }
 
@@ -276,7 +275,8 @@ type New<'n> = (usize, &'n [i64]);
 fn wrong_result(file: &[u8], sections: &[Section], result: &[u8], new: [New; 2]) -> Option<String> {
     for (number, frame) in new {
         let mut pixels = vec![0; frame.len()];
-        if cbf::unpack(result, number, &mut pixels) != Ok(frame.len()) || pixels != frame {
+        let expected = calls::answer(Ok(frame.len()));
+        if calls::unpack(result, number, &mut pixels) != expected || pixels != frame {
             return Some(format!("frame {number} is not read back"));
         }
     }

@@ -1,12 +1,14 @@
-//! The library's count of sections, their octets and their pixels against the independent side's. Canaries stand as in
-//! compare.rs.
+//! The library's count of sections, their fields, octets and pixels against the reference's. Canaries stand as in
+//! pixels.rs.
 
-use crate::cbf::{self, Answer};
-use crate::compare::{canaries, differ};
-use crate::contents::WINDOW;
-use crate::frames::Random;
-use crate::reader::{Read, Refusal, Section};
-use crate::sections;
+use super::pixels::canaries;
+use super::{calls, differ};
+use crate::inputs::contents::WINDOW;
+use crate::inputs::random::Random;
+use crate::reference::reader::{Read, Refusal, Section};
+use crate::reference::sections;
+use mooringelm::raw::Answer;
+use std::ops::Range;
 
 /// Of a file with more sections, some are looked at.
 const SOME: usize = 6;
@@ -15,6 +17,8 @@ const SOME: usize = 6;
 #[derive(Default)]
 pub struct Tally {
     calls: usize,
+    /// Those that ask for all fields of a section.
+    fields: usize,
     /// How often each refusal was met, by its number.
     refused: [usize; 19],
     /// Sections that unpack: BINARY and BASE64, each uncompressed and byte offset.
@@ -26,11 +30,16 @@ pub struct Tally {
 }
 
 impl Tally {
-    fn answer(&mut self, answer: Answer) {
+    fn answer(&mut self, refusal: u32) {
         self.calls += 1;
-        if let Err((number, _)) = answer {
-            self.refused[number as usize] += 1;
-        }
+        self.refused[refusal as usize] += 1;
+    }
+
+    /// Both functions that tell of a section's fields.
+    fn fields(&mut self, refusal: u32) {
+        self.fields += 2;
+        self.answer(refusal);
+        self.answer(refusal);
     }
 
     fn section(&mut self, section: &Section, unpacks: bool) {
@@ -49,8 +58,8 @@ impl Tally {
     pub fn show(&self) -> bool {
         let [binary, binary_offset, base64, base64_offset] = self.unpacked;
         print!(
-            "{} of the calls are on sections; uncompressed, byte offset, not to be unpacked:",
-            self.calls
+            "{} of the calls are on sections, {} for all fields; uncompressed, byte offset, not to be unpacked:",
+            self.calls, self.fields
         );
         print!(" BINARY {binary}, {binary_offset}, {};", self.failed[0]);
         print!(" BASE64 {base64}, {base64_offset}, {},", self.failed[1]);
@@ -78,9 +87,9 @@ impl Tally {
 }
 
 fn check_count(file: &[u8], read: &Read, tally: &mut Tally) {
-    let expected: Answer = read.as_ref().map(Vec::len).map_err(|refusal| *refusal);
-    let got = cbf::count(file);
-    tally.answer(expected);
+    let expected = calls::answer(read.as_ref().map(Vec::len).map_err(|refusal| *refusal));
+    let got = calls::count(file);
+    tally.answer(expected.refusal);
     if got != expected {
         differ(format!(
             "count: {got:?}, expected {expected:?}; the file is {}",
@@ -89,19 +98,52 @@ fn check_count(file: &[u8], read: &Read, tally: &mut Tally) {
     }
 }
 
-fn check_octets(file: &[u8], read: &Read, number: usize, random: &mut Random, tally: &mut Tally) {
-    let canary = random.next();
+/// Compares every field of a section's answer, by the function for C and by the safe one over it.
+pub fn check_fields(file: &[u8], read: &Read, number: usize) -> u32 {
+    let found = match read {
+        Err(refusal) => Err(*refusal),
+        Ok(sections) => sections::numbered(sections, number),
+    };
+    let got = calls::section(file, number);
+    let expected = calls::section_answer(found, got.name_start);
+    let name = got.name_start as usize..got.name_start as usize + got.name_length as usize;
+    let named = file.get(name.clone()) == Some(found.map_or(b"", |section| section.block));
+    let safe = mooringelm::section(file, number).map_err(|refusal| (refusal.number, refusal.place));
+    let safe_right = safe == found.map(|section| safe_fields(section, name));
+    if got != expected || !named || !safe_right {
+        differ(format!(
+            "section {number}: {got:?}, expected {expected:?}, name right: {named}, safe function right: {safe_right}; \
+            the file is {}",
+            file.escape_ascii()
+        ));
+    }
+    expected.refusal
+}
+
+/// A section as the safe function is to tell of it.
+fn safe_fields(section: &Section, name: Range<usize>) -> mooringelm::Section {
+    mooringelm::Section {
+        span: section.boundary..section.end,
+        position: section.position,
+        size: section.size,
+        elements: section.elements,
+        id: section.id,
+        dimensions: section.dimensions,
+        name,
+        compression: section.byte_offset.into(),
+        element_type: section.element_type,
+        encoding: section.base64.into(),
+    }
+}
+
+fn check_octets(file: &[u8], read: &Read, number: usize, tally: &mut Tally) {
     let found = match read {
         Err(refusal) => Err(*refusal),
         Ok(sections) => sections::octets(sections, number),
     };
-    let expected = (
-        found.map(|(_, length)| length),
-        found.map_or(canary, |(start, _)| start as u64),
-    );
-    let mut start = canary;
-    let got = (cbf::find_octets(file, number, &mut start), start);
-    tally.answer(expected.0);
+    let expected = calls::octets_answer(found);
+    let got = calls::octets(file, number);
+    tally.answer(expected.refusal);
     if got != expected {
         differ(format!(
             "octets {number}: {got:?}, expected {expected:?}; the file is {}",
@@ -122,16 +164,16 @@ pub fn check_room(
 ) -> Answer {
     let before = canaries(random, room);
     let mut out = before.clone();
-    let got = cbf::unpack(file, number, &mut out);
+    let got = calls::unpack(file, number, &mut out);
     let mut after = before;
-    let expected = match pixels {
+    let expected = calls::answer(match pixels {
         Err(refusal) => Err(*refusal),
         Ok(pixels) if pixels.len() > room => Err((15, 0)),
         Ok(pixels) => {
             after[..pixels.len()].copy_from_slice(pixels);
             Ok(pixels.len())
         }
-    };
+    });
     if got != expected || out != after {
         let memory = if out == after { "right" } else { "wrong" };
         differ(format!(
@@ -161,28 +203,36 @@ fn check_unpack(file: &[u8], read: &Read, number: usize, random: &mut Random, ta
         rooms.extend([elements, elements - 1]);
     }
     for room in rooms {
-        tally.answer(check_room(file, &pixels, number, room, random));
+        tally.answer(check_room(file, &pixels, number, room, random).refusal);
     }
 }
 
-/// All section numbers, or the first two, the last two and two by chance; and three that no section has.
-fn numbers(count: usize, random: &mut Random) -> Vec<usize> {
+/// Three numbers that no section has.
+fn no_sections(count: usize, random: &mut Random) -> [usize; 3] {
     let far = [usize::MAX, (1 << 32) + 1, (1 << 32) + count][random.below(3)];
-    let mut numbers = vec![0, count + 1, far];
+    [0, count + 1, far]
+}
+
+/// All section numbers, or the first two, the last two and two by chance.
+fn some(count: usize, random: &mut Random) -> Vec<usize> {
     if count <= SOME {
-        numbers.extend(1..=count);
+        (1..=count).collect()
     } else {
-        numbers.extend([1, 2, count - 1, count]);
-        numbers.extend([(); 2].map(|()| 3 + random.below(count - 4)));
+        let chance = [(); 2].map(|()| 3 + random.below(count - 4));
+        vec![1, 2, count - 1, count, chance[0], chance[1]]
     }
-    numbers
 }
 
 /// Compares all calls on the file's sections.
 pub fn check(file: &[u8], read: &Read, random: &mut Random, tally: &mut Tally) {
     check_count(file, read, tally);
-    for number in numbers(read.as_ref().map_or(0, Vec::len), random) {
-        check_octets(file, read, number, random, tally);
+    let count = read.as_ref().map_or(0, Vec::len);
+    let none = no_sections(count, random);
+    for number in none.into_iter().chain(1..=count) {
+        tally.fields(check_fields(file, read, number));
+    }
+    for number in none.into_iter().chain(some(count, random)) {
+        check_octets(file, read, number, tally);
         check_unpack(file, read, number, random, tally);
     }
 }

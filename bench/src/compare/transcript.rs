@@ -1,9 +1,11 @@
 //! The library's and the reference's transcript of the vectors against the independent program's.
 
-use crate::compare::differ;
-use crate::side::{Library, Reference, Side};
-use crate::transcript;
-use crate::vectors;
+mod side;
+mod text;
+
+use super::differ;
+use crate::inputs::vectors;
+use side::{Library, Reference, Side};
 
 /// Differs at the first line that is not the independent program's, or that one of them lacks.
 fn check(who: &str, text: &str, independent: &str) {
@@ -29,9 +31,15 @@ pub fn all() -> usize {
     let files = vectors::files();
     let sides: [(&str, &dyn Side); 2] = [("library", &Library), ("reference", &Reference)];
     let calls = sides.map(|(who, side)| {
-        let transcript = transcript::of(side, &files);
+        let transcript = text::of(side, &files);
         check(who, &transcript.text, vectors::TRANSCRIPT);
         transcript.calls
     });
     calls[0]
+}
+
+/// Prints the library's transcript of the files of a cases.bin.
+pub fn print(path: &str) {
+    let cases = std::fs::read(path).expect("a cases.bin");
+    print!("{}", text::of(&Library, &vectors::split(&cases)).text);
 }

@@ -1,8 +1,8 @@
 //! The octets of sections by chance: most unpack, some do not.
 
-use crate::compare::{overlong, pixels};
-use crate::frames::Random;
-use crate::reference::{put_difference, range};
+use super::chance::{overlong, pixels};
+use super::random::Random;
+use crate::reference::pixels::{put_difference, range};
 
 /// The library decodes BASE64 through a window of that many octets.
 pub const WINDOW: usize = 1_536;

@@ -1,6 +1,6 @@
 //! Damage to a file, by chance.
 
-use crate::frames::Random;
+use super::random::Random;
 
 /// Bytes that mean something to a reader, and neighbours of the classes of bytes.
 const TELLING: &[u8] = b"\t\n\r\x1f ~\x7f\x80\x00\xff;:=\"-_#+/09AZaz@[`{.";

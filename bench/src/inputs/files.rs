@@ -2,8 +2,8 @@
 
 mod headers;
 
-use crate::contents::content;
-use crate::frames::Random;
+use super::contents::content;
+use super::random::Random;
 
 const OPENING: &str = "--CIF-BINARY-FORMAT-SECTION--";
 const CLOSING: &str = "--CIF-BINARY-FORMAT-SECTION----";

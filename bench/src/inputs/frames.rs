@@ -1,6 +1,7 @@
 //! Frames of the element types, of 487 × 619 pixels and larger: detector-like, noise, strong, sparse, and with a mask.
 
-use crate::reference::range;
+use super::random::Random;
+use crate::reference::pixels::range;
 
 pub const WIDTH: usize = 487;
 pub const HEIGHT: usize = 619;
@@ -13,40 +14,6 @@ pub const SMALL: Size = (WIDTH, HEIGHT);
 
 /// A large detector: four rows of five small frames, with gaps of 17 rows and 7 columns.
 pub const LARGE: Size = (5 * WIDTH + 4 * 7, 4 * HEIGHT + 3 * 17);
-
-/// A generator of numbers (xorshift): the same frames and inputs in every run.
-pub struct Random(u64);
-
-impl Random {
-    pub fn new(seed: u64) -> Self {
-        Random(seed.wrapping_mul(0x9E37_79B9_7F4A_7C15) | 1)
-    }
-
-    pub fn next(&mut self) -> u64 {
-        self.0 ^= self.0 << 13;
-        self.0 ^= self.0 >> 7;
-        self.0 ^= self.0 << 17;
-        self.0
-    }
-
-    pub fn below(&mut self, n: usize) -> usize {
-        (self.next() >> 11) as usize % n
-    }
-
-    fn unit(&mut self) -> f64 {
-        (self.next() >> 11) as f64 / (1u64 << 53) as f64
-    }
-
-    fn poisson(&mut self, mean: f64) -> i64 {
-        let limit = (-mean).exp();
-        let (mut count, mut product) = (-1, 1.0);
-        while product > limit {
-            product *= self.unit();
-            count += 1;
-        }
-        count
-    }
-}
 
 /// Poisson background of mean 5; a peak on one pixel in 5,000, its four neighbours raised (heights e^3 to e^11); in signed
 /// types bands of 17 rows of -1 from row 195 on, every 212 rows. Counts are cut to the type.

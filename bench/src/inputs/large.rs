@@ -1,7 +1,7 @@
 //! Large files for measuring speed: text, headers, BASE64, octets, and one section.
 
-use crate::files::{base64_text, ELEMENT_TYPES};
-use crate::frames::Random;
+use super::files::{base64_text, ELEMENT_TYPES};
+use super::random::Random;
 use std::fmt::Write;
 
 const SECTIONS: usize = 400;

@@ -1,9 +1,11 @@
 //! The vectors: files, and an independent program's transcript of them.
 
+use crate::reference::pixels::range;
+
 pub const COUNT: usize = 542;
 
-const FILES: &[u8] = include_bytes!("../vectors/cases.bin");
-pub const TRANSCRIPT: &str = include_str!("../vectors/transcript.txt");
+const FILES: &[u8] = include_bytes!("../../vectors/cases.bin");
+pub const TRANSCRIPT: &str = include_str!("../../vectors/transcript.txt");
 
 /// The files of a cases.bin: each as four bytes of length, lowest octet first, and then the file.
 pub fn split(mut rest: &[u8]) -> Vec<Vec<u8>> {
@@ -48,4 +50,14 @@ pub fn cases() -> Vec<(Vec<u8>, Vec<u8>)> {
     let (files, listings) = (files(), listings());
     assert_eq!(files.len(), listings.len());
     files.into_iter().zip(listings).collect()
+}
+
+/// A frame by its style: of the whole type, or of 0 to 99.
+pub fn frame(element_type: u8, elements: usize, number: usize, style: usize) -> Vec<i64> {
+    let (least, greatest, _) = range(element_type).expect("one of six");
+    let pixel = |i: usize| match style {
+        1 => least + ((i * 7_919 + number * 104_729 + 17) as i64) % (greatest - least + 1),
+        _ => ((i * i + number) % 100) as i64,
+    };
+    (0..elements).map(pixel).collect()
 }

@@ -1,8 +1,10 @@
 //! The speed of the calls on sections: unpacking in BINARY beside unpacking the octets alone, unpacking in BASE64 beside a
 //! straightforward peer, and the catalogue beside the count.
 
-use crate::valgrind::instructions;
-use crate::{cbf, clock, frames, large, reference, sections};
+use super::clock;
+use super::valgrind::instructions;
+use crate::inputs::{frames, large};
+use crate::reference::{pixels, sections};
 use std::hint::black_box;
 
 /// Instructions a pixel that unpacking a section in BINARY may take above unpacking its octets.
@@ -59,9 +61,9 @@ fn input(name: &str) -> Input {
     };
     let pixels = frames::frame(kind, element_type);
     let octets = if byte_offset {
-        reference::pack(element_type, &pixels, usize::MAX).unwrap()
+        pixels::pack(element_type, &pixels, usize::MAX).unwrap()
     } else {
-        let width = reference::range(element_type).unwrap().2;
+        let width = pixels::range(element_type).unwrap().2;
         let octets = |pixel: &i64| pixel.to_le_bytes().into_iter().take(width);
         pixels.iter().flat_map(octets).collect()
     };
@@ -83,9 +85,9 @@ pub fn run(who: &str, call: &str, name: &str, times: usize) -> f64 {
     let mut best = f64::INFINITY;
     for _ in 0..times {
         let (length, time) = clock::timed(|| match (who, call) {
-            ("cbf", "unpack") => cbf::unpack(black_box(file), 1, &mut pixels).ok(),
+            ("ours", "unpack") => mooringelm::unpack(black_box(file), 1, &mut pixels).ok(),
             ("plain", "unpack") => sections::unpack(black_box(file), 1, &mut pixels).ok(),
-            ("cbf", "unpack_octets") => cbf::unpack_octets(
+            ("ours", "unpack_octets") => mooringelm::unpack_octets(
                 input.element_type,
                 input.byte_offset.into(),
                 black_box(&input.octets),
@@ -93,9 +95,9 @@ pub fn run(who: &str, call: &str, name: &str, times: usize) -> f64 {
                 &mut pixels,
             )
             .ok(),
-            ("cbf", "catalogue") => cbf::catalogue(black_box(file), &mut out).ok(),
-            ("cbf", "count") => cbf::count(black_box(file)).ok(),
-            _ => panic!("cbf unpack, unpack_octets, catalogue or count, or plain unpack"),
+            ("ours", "catalogue") => mooringelm::catalogue(black_box(file), &mut out).ok(),
+            ("ours", "count") => mooringelm::count(black_box(file)).ok(),
+            _ => panic!("ours unpack, unpack_octets, catalogue or count, or plain unpack"),
         });
         best = best.min(time);
         let expected = match call {
@@ -165,15 +167,15 @@ fn met(what: &str, value: Option<f64>, bar: f64) -> bool {
 }
 
 fn measure_binary() -> bool {
-    println!("| cbf_unpack, BINARY, a pixel | instructions | cbf_unpack_octets | more | nanoseconds | cbf_unpack_octets |");
+    println!("| mel_unpack, BINARY, a pixel | instructions | mel_unpack_octets | more | nanoseconds | mel_unpack_octets |");
     println!("|---|---|---|---|---|---|");
     let mut all = true;
     for name in ["binary_detector", "binary_noise", "binary_strong"] {
-        let costs = costs([("cbf", "unpack"), ("cbf", "unpack_octets")], name);
+        let costs = costs([("ours", "unpack"), ("ours", "unpack_octets")], name);
         let counts = row(name, frames::PIXELS as f64, costs, |one, other| one - other);
         let more = counts.map(|[_, more]| more);
         all &= met(
-            &format!("what cbf_unpack {name} takes more"),
+            &format!("what mel_unpack {name} takes more"),
             more,
             MORE_BAR,
         );
@@ -183,28 +185,28 @@ fn measure_binary() -> bool {
 
 fn measure_base64() -> bool {
     println!(
-        "| cbf_unpack, BASE64, an octet | instructions | plain | ratio | nanoseconds | plain |"
+        "| mel_unpack, BASE64, an octet | instructions | plain | ratio | nanoseconds | plain |"
     );
     println!("|---|---|---|---|---|---|");
     let mut all = true;
     for (name, bar) in BASE64_BARS {
-        let costs = costs([("cbf", "unpack"), ("plain", "unpack")], name);
+        let costs = costs([("ours", "unpack"), ("plain", "unpack")], name);
         let octets = input(name).octets.len();
         let counts = row(name, octets as f64, costs, |one, other| one / other);
         let an_octet = counts.map(|[an_octet, _]| an_octet);
-        all &= met(&format!("cbf_unpack {name}"), an_octet, bar);
+        all &= met(&format!("mel_unpack {name}"), an_octet, bar);
     }
     all
 }
 
 fn measure_catalogue() -> bool {
-    println!("| cbf_catalogue, a section | instructions | cbf_count | in counts, less 1 a byte | nanoseconds | cbf_count |");
+    println!("| mel_catalogue, a section | instructions | mel_count | in counts, less 1 a byte | nanoseconds | mel_count |");
     println!("|---|---|---|---|---|---|");
-    let costs = costs([("cbf", "catalogue"), ("cbf", "count")], "sections");
+    let costs = costs([("ours", "catalogue"), ("ours", "count")], "sections");
     let in_counts = |catalogue, count| (catalogue - CATALOGUE as f64 / SECTIONS as f64) / count;
     let counts = row("sections", SECTIONS as f64, costs, in_counts);
     let in_counts = counts.map(|[_, in_counts]| in_counts);
-    met("cbf_catalogue in counts", in_counts, CATALOGUE_BAR)
+    met("mel_catalogue in counts", in_counts, CATALOGUE_BAR)
 }
 
 pub fn measure() -> bool {

@@ -1,6 +1,8 @@
 //! The speed of reading large files, the library's beside the straightforward reader's.
 
-use crate::{cbf, clock, large, reader, valgrind};
+use super::{clock, valgrind};
+use crate::inputs::large;
+use crate::reference::reader;
 use std::hint::black_box;
 
 /// The library's instructions for one reading of text or of headers may not pass the straightforward reader's times this.
@@ -41,12 +43,14 @@ pub fn run(who: &str, name: &str, times: usize) -> f64 {
     let mut best = f64::INFINITY;
     for _ in 0..times {
         let (refusal, time) = clock::timed(|| match who {
-            "cbf" => cbf::listing(black_box(&file), &mut out).err(),
-            "plain" => reader::read(black_box(&file)).err(),
-            _ => panic!("cbf or plain"),
+            "ours" => mooringelm::listing(black_box(&file), &mut out)
+                .err()
+                .map(|r| r.number),
+            "plain" => reader::read(black_box(&file)).err().map(|r| r.0),
+            _ => panic!("ours or plain"),
         });
         best = best.min(time / units as f64);
-        assert_eq!(refusal.map(|r| r.0), number, "{who} {name}");
+        assert_eq!(refusal, number, "{who} {name}");
     }
     best
 }
@@ -64,18 +68,18 @@ fn row(name: &str) -> bool {
         "octets" => "file",
         _ => "byte",
     };
-    let times = ["cbf", "plain"].map(|who| run(who, name, 20));
+    let times = ["ours", "plain"].map(|who| run(who, name, 20));
     let times = format!("{:.2} | {:.2}", times[0], times[1]);
-    let counts = (instructions("cbf", name), instructions("plain", name));
-    let (Some(cbf), Some(plain)) = counts else {
+    let counts = (instructions("ours", name), instructions("plain", name));
+    let (Some(ours), Some(plain)) = counts else {
         println!("| {name} | {unit} | no valgrind | | | {times} |");
         return true;
     };
-    let ratio = cbf / plain;
-    println!("| {name} | {unit} | {cbf:.2} | {plain:.2} | {ratio:.2} | {times} |");
+    let ratio = ours / plain;
+    println!("| {name} | {unit} | {ours:.2} | {plain:.2} | {ratio:.2} | {times} |");
     let (value, bar) = match name {
-        "base64" => (cbf, LETTER_BAR),
-        "octets" => (cbf, OCTETS_BAR),
+        "base64" => (ours, LETTER_BAR),
+        "octets" => (ours, OCTETS_BAR),
         _ => (ratio, RATIO_BAR),
     };
     if value > bar {
@@ -85,7 +89,7 @@ fn row(name: &str) -> bool {
 }
 
 pub fn measure() -> bool {
-    println!("| reading | a | instructions cbf | plain | ratio | nanoseconds cbf | plain |");
+    println!("| reading | a | instructions | plain | ratio | nanoseconds | plain |");
     println!("|---|---|---|---|---|---|---|");
     let mut met = true;
     for name in FILES {

@@ -2,10 +2,12 @@
 //!
 //! Times are of the thread, the least of many rounds; each round takes the frames in a new order, and the calls on each.
 
-use crate::frames::{Random, Size};
-use crate::pixel_bars::bar;
-use crate::valgrind::instructions;
-use crate::{cbf, clock, frames, reference, TYPES};
+use super::bars::bar;
+use super::clock;
+use super::valgrind::instructions;
+use crate::inputs::frames::{self, Size};
+use crate::inputs::random::Random;
+use crate::reference::pixels::{self, TYPES};
 use std::hint::black_box;
 use std::path::{Path, PathBuf};
 
@@ -32,7 +34,7 @@ const LARGE_ROUNDS: usize = 12;
 
 /// `pack` has room for 15 octets a pixel, `pack_exact` for as many as are written.
 const CALLS: [&str; 3] = ["unpack", "pack", "pack_exact"];
-const WHO: [&str; 2] = ["cbf", "plain"];
+const WHO: [&str; 2] = ["ours", "plain"];
 
 /// Each call by each side.
 const WAYS: usize = CALLS.len() * WHO.len();
@@ -55,7 +57,7 @@ struct Frame {
 impl Frame {
     fn new(kind: &str, element_type: u8, size: Size) -> Self {
         let pixels = frames::sized(kind, element_type, size);
-        let octets = reference::pack(element_type, &pixels, usize::MAX).unwrap();
+        let octets = pixels::pack(element_type, &pixels, usize::MAX).unwrap();
         Frame {
             element_type,
             pixels,
@@ -125,11 +127,13 @@ fn call(who: &str, what: &str, frame: &Frame, lent: &mut Lent) -> bool {
     };
     let packed = &mut lent.octets[..room];
     match (who, what) {
-        ("cbf", "unpack") => cbf::unpack_octets(kind, 1, octets, count, unpacked) == Ok(count),
-        ("plain", "unpack") => reference::peer::unpack(kind, octets, count, unpacked) == Ok(count),
-        ("cbf", "pack" | "pack_exact") => cbf::pack(kind, pixels, packed) == Ok(size),
-        ("plain", "pack" | "pack_exact") => reference::peer::pack(kind, pixels, packed) == Ok(size),
-        _ => panic!("cbf or plain, and unpack, pack or pack_exact"),
+        ("ours", "unpack") => {
+            mooringelm::unpack_octets(kind, 1, octets, count, unpacked) == Ok(count)
+        }
+        ("plain", "unpack") => pixels::peer::unpack(kind, octets, count, unpacked) == Ok(count),
+        ("ours", "pack" | "pack_exact") => mooringelm::pack(kind, pixels, packed) == Ok(size),
+        ("plain", "pack" | "pack_exact") => pixels::peer::pack(kind, pixels, packed) == Ok(size),
+        _ => panic!("ours or plain, and unpack, pack or pack_exact"),
     }
 }
 
@@ -223,13 +227,14 @@ fn octets_a_pixel(frame: &Frame) -> f64 {
 }
 
 /// Instructions, bar and nanoseconds of the library, instructions and nanoseconds of plain, the ratio of times.
-fn cells(counts: Option<[f64; 2]>, bar: f64, [cbf, plain]: [f64; 2]) -> String {
-    let ratio = cbf / plain;
+fn cells(counts: Option<[f64; 2]>, bar: f64, times: [f64; 2]) -> String {
+    let [time, plain] = times;
+    let ratio = time / plain;
     match counts {
         Some([ours, theirs]) => {
-            format!("{ours:.2} | {bar} | {cbf:.2} | {theirs:.2} | {plain:.2} | {ratio:.2}")
+            format!("{ours:.2} | {bar} | {time:.2} | {theirs:.2} | {plain:.2} | {ratio:.2}")
         }
-        None => format!("no valgrind | {bar} | {cbf:.2} | | {plain:.2} | {ratio:.2}"),
+        None => format!("no valgrind | {bar} | {time:.2} | | {plain:.2} | {ratio:.2}"),
     }
 }
 
@@ -278,10 +283,10 @@ fn time_large() {
     let times = time(&all, LARGE_ROUNDS);
     for (index, what) in CALLS.into_iter().enumerate() {
         for (at, (kind, name)) in pairs.iter().enumerate() {
-            let (cbf, plain) = (times[at][2 * index], times[at][2 * index + 1]);
-            let (octets, ratio) = (octets_a_pixel(&all[at]), cbf / plain);
+            let (ours, plain) = (times[at][2 * index], times[at][2 * index + 1]);
+            let (octets, ratio) = (octets_a_pixel(&all[at]), ours / plain);
             println!(
-                "| {what} | {kind} | {name} | {octets:.3} | {cbf:.2} | {plain:.2} | {ratio:.2} |"
+                "| {what} | {kind} | {name} | {octets:.3} | {ours:.2} | {plain:.2} | {ratio:.2} |"
             );
         }
     }

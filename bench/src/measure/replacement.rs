@@ -1,8 +1,10 @@
 //! The speed of replacing one frame in a file of 256 MiB: what it takes above packing the frame alone into exact room,
 //! beside memcpy of the file.
 
-use crate::replacement::{self, Edit};
-use crate::{cbf, clock, frames, large, reader, reference, valgrind};
+use super::{clock, valgrind};
+use crate::inputs::{frames, large};
+use crate::reference::replacement::{self, Edit};
+use crate::reference::{pixels, reader};
 use std::hint::black_box;
 
 /// Instructions above packing the frame that may not be passed, in those of memcpy of the file.
@@ -32,7 +34,7 @@ fn input() -> Input {
     let (width, height) = frames::LARGE;
     let mut frame = frames::large();
     let mut octets = vec![0; 15 * frame.len()];
-    let size = reference::peer::pack(6, &frame, &mut octets).expect("pixels of s32");
+    let size = pixels::peer::pack(6, &frame, &mut octets).expect("pixels of s32");
     let all = std::iter::repeat_n(&octets[..size], FRAMES);
     let file = large::exposures(width, height, all);
     let one_more = file.len() + file.len() / FRAMES;
@@ -41,7 +43,7 @@ fn input() -> Input {
     for line in frame.chunks_mut(width).skip(height / 2).take(60) {
         line[width / 2..width / 2 + 50].fill(-1);
     }
-    let packed = reference::peer::pack(6, &frame, &mut octets).expect("pixels of s32");
+    let packed = pixels::peer::pack(6, &frame, &mut octets).expect("pixels of s32");
     let mut out = vec![0; file.len() + 1_000 + 15 * frame.len()];
     out.iter_mut().step_by(PAGE).for_each(|byte| *byte = 1);
     Input {
@@ -62,8 +64,8 @@ fn call(input: &mut Input, call: &str) -> Option<usize> {
             Some(file.len())
         }
         // A frame that is replaced is packed into a place of its size, not into room for 15 octets a pixel.
-        "pack" => cbf::pack(6, frame, &mut out[..input.packed]).ok(),
-        number => cbf::replace(file, number.parse().expect("a number"), frame, out).ok(),
+        "pack" => mooringelm::pack(6, frame, &mut out[..input.packed]).ok(),
+        number => mooringelm::replace(file, number.parse().expect("a number"), frame, out).ok(),
     }
 }
 
@@ -121,10 +123,10 @@ pub fn measure() -> bool {
     check(&mut input);
     let (width, height) = frames::LARGE;
     println!(
-        "cbf_replace in {} bytes, {FRAMES} frames of {width} × {height}; instructions and nanoseconds a byte of the file",
+        "mel_replace in {} bytes, {FRAMES} frames of {width} × {height}; instructions and nanoseconds a byte of the file",
         input.file.len()
     );
-    println!("| frame | instructions above cbf_pack | memcpy | ratio | nanoseconds above cbf_pack | memcpy | ratio |");
+    println!("| frame | instructions above mel_pack | memcpy | ratio | nanoseconds above mel_pack | memcpy | ratio |");
     println!("|---|---|---|---|---|---|---|");
     let times = nanoseconds(&mut input).map(|time| time / input.file.len() as f64);
     let counts = instructions().map(|counts| counts.map(|c| c / input.file.len() as f64));

@@ -1,6 +1,6 @@
 //! What examples/replace.c does, by the reader and the reference alone: the file that it is to write, and what it is to print.
 
-use crate::{reader, replacement, sections};
+use super::{reader, replacement, sections};
 
 /// The file with every pixel above a limit exchanged for a value, how many these are, and of how many.
 fn masked(

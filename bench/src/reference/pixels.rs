@@ -3,6 +3,9 @@
 
 pub const PIXEL_LIMIT: usize = 67_108_864;
 
+/// The element types, from number 1 on.
+pub const TYPES: [&str; 6] = ["u8", "s8", "u16", "s16", "u32", "s32"];
+
 /// Least and greatest pixel of an element type, and its octets.
 pub fn range(element_type: u8) -> Option<(i64, i64, usize)> {
     match element_type {

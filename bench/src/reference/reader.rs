@@ -4,6 +4,7 @@
 mod headers;
 mod letters;
 
+use super::pixels::TYPES;
 use headers::{split_header, Found, Headers};
 use letters::Letters;
 use std::io::Write;
@@ -73,7 +74,7 @@ pub fn listing(sections: &[Section]) -> Vec<u8> {
             } else {
                 "none"
             },
-            crate::TYPES[usize::from(section.element_type) - 1],
+            TYPES[usize::from(section.element_type) - 1],
         )
         .expect("a Vec takes all");
         if !section.block.is_empty() {

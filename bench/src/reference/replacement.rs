@@ -1,9 +1,9 @@
 //! Replacement in straightforward Rust, written from document 01 and not from the library: what the library's answers are held
 //! to.
 
-use crate::reader::{Read, Refusal, Section, CLOSING, FILE_LIMIT, MARKER, OPENING};
-use crate::reference;
-use crate::sections::numbered;
+use super::pixels;
+use super::reader::{Read, Refusal, Section, CLOSING, FILE_LIMIT, MARKER, OPENING};
+use super::sections::numbered;
 
 const OCTET_LIMIT: usize = 1_073_741_824;
 
@@ -63,7 +63,7 @@ pub fn edit(file: &[u8], read: &Read, number: usize, frame: &[i64]) -> Result<Ed
     if frame.len() != section.elements {
         return Err((14, 0));
     }
-    let octets = reference::pack(section.element_type, frame, usize::MAX)?;
+    let octets = pixels::pack(section.element_type, frame, usize::MAX)?;
     if octets.len() > OCTET_LIMIT {
         return Err((16, 0));
     }
@@ -119,7 +119,7 @@ fn headers(section: &Section, size: usize) -> Vec<String> {
 }
 
 fn element_type(element_type: u8) -> String {
-    let (least, _, octets) = reference::range(element_type).expect("one of six");
+    let (least, _, octets) = pixels::range(element_type).expect("one of six");
     let sign = if least < 0 { "signed" } else { "unsigned" };
     format!(
         "X-Binary-Element-Type: \"{sign} {}-bit integer\"",

@@ -1,8 +1,8 @@
 //! What the calls on one section say, in straightforward Rust, written from document 01 and not from the library: what the
 //! library's answers are held to, and what their speed is measured beside.
 
-use crate::reader::{self, Refusal, Section};
-use crate::reference;
+use super::pixels;
+use super::reader::{self, Refusal, Section};
 use std::borrow::Cow;
 
 /// The section with that number; the first one has 1.
@@ -63,7 +63,7 @@ fn all_octets<'f>(file: &'f [u8], section: &Section) -> Cow<'f, [u8]> {
 
 pub fn pixels(file: &[u8], sections: &[Section], number: usize) -> Result<Vec<i64>, Refusal> {
     let section = numbered(sections, number)?;
-    reference::unpack(
+    pixels::unpack(
         section.element_type,
         section.byte_offset.into(),
         &all_octets(file, section),
@@ -79,9 +79,9 @@ pub fn unpack(file: &[u8], number: usize, out: &mut [i64]) -> Result<usize, u32>
     let section = numbered(&sections, number).map_err(|refusal| refusal.0)?;
     let octets = all_octets(file, section);
     let unpack = if section.byte_offset {
-        reference::peer::unpack
+        pixels::peer::unpack
     } else {
-        reference::peer::unpack_uncompressed
+        pixels::peer::unpack_uncompressed
     };
     unpack(section.element_type, &octets, section.elements, out)
 }

@@ -1,8 +1,9 @@
 //! Frames that drive packing to the edges of its loops: parts of 128 pixels and about that, dense and quiet ones, with
 //! room that is just enough for each way to write them, and one octet less.
 
-use crate::edges::{between, Edges, Kind};
-use crate::reference;
+use super::Edges;
+use crate::inputs::differences::{between, Kind};
+use crate::reference::pixels::put_difference;
 
 /// Pixels that a loop takes at once, where many differences are wide.
 const PART: usize = 128;
@@ -64,7 +65,7 @@ impl Frame {
 fn size(frame: &[i64]) -> usize {
     let (mut octets, mut last) = (Vec::new(), 0);
     for &pixel in frame {
-        reference::put_difference(pixel.wrapping_sub(last), 0, &mut octets);
+        put_difference(pixel.wrapping_sub(last), 0, &mut octets);
         last = pixel;
     }
     octets.len()

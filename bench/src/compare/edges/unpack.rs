@@ -1,7 +1,8 @@
 //! Octets that drive unpacking to the edges of its loops: runs of plain octets that reach an end of the type, pixels
 //! that leave a window, and differences of three octets at every place of a block.
 
-use crate::edges::{between, Differences, Edges, Kind, Pace, PACES};
+use super::Edges;
+use crate::inputs::differences::{between, Differences, Kind, Pace, PACES};
 
 /// Octets that are looked at together, where all are plain.
 const BLOCK: usize = 32;

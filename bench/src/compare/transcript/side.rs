@@ -1,9 +1,8 @@
 //! The calls that a transcript is made of, by whoever answers them: the library through C, or the reference.
 
-use crate::cbf::{self, Answer};
-use crate::reader::{self, Refusal};
-use crate::replacement;
-use crate::sections;
+use crate::reference::reader::{self, Refusal};
+use crate::reference::{replacement, sections};
+use mooringelm::Answer;
 
 /// Bytes that a call writes or finds.
 pub type Octets = Result<Vec<u8>, Refusal>;
@@ -21,36 +20,41 @@ pub trait Side {
 /// The library's functions for C.
 pub struct Library;
 
+fn pair(refusal: mooringelm::Refusal) -> Refusal {
+    (refusal.number, refusal.place)
+}
+
 /// What a call gives that is lent so much memory.
 fn lent<T: Copy + Default>(
     room: usize,
     call: impl FnOnce(&mut [T]) -> Answer,
 ) -> Result<Vec<T>, Refusal> {
     let mut out = vec![T::default(); room];
-    let length = call(&mut out)?;
+    let length = call(&mut out).map_err(pair)?;
     out.truncate(length);
     Ok(out)
 }
 
 impl Side for Library {
     fn listing(&self, file: &[u8], room: usize) -> Octets {
-        lent(room, |out| cbf::listing(file, out))
+        lent(room, |out| mooringelm::listing(file, out))
     }
 
     fn catalogue(&self, file: &[u8], room: usize) -> Octets {
-        lent(room, |out| cbf::catalogue(file, out))
+        lent(room, |out| mooringelm::catalogue(file, out))
     }
 
     fn octets(&self, file: &[u8], number: usize) -> Octets {
-        cbf::octets(file, number).map(<[u8]>::to_vec)
+        let octets = mooringelm::octets(file, number);
+        octets.map(<[u8]>::to_vec).map_err(pair)
     }
 
     fn unpack(&self, file: &[u8], number: usize, room: usize) -> Pixels {
-        lent(room, |pixels| cbf::unpack(file, number, pixels))
+        lent(room, |pixels| mooringelm::unpack(file, number, pixels))
     }
 
     fn replace(&self, file: &[u8], number: usize, frame: &[i64], room: usize) -> Octets {
-        lent(room, |out| cbf::replace(file, number, frame, out))
+        lent(room, |out| mooringelm::replace(file, number, frame, out))
     }
 }
 

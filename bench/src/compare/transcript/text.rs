@@ -1,10 +1,10 @@
 //! What a side says of files, as one text: vectors/README.md tells its lines. Nothing but the side's own answers goes
 //! into it, so that the library's transcript of any files is had without the reference.
 
-use crate::reader::Refusal;
-use crate::reference::range;
-use crate::side::{Octets, Pixels, Side};
-use crate::TYPES;
+use super::side::{Octets, Pixels, Side};
+use crate::inputs::vectors::frame;
+use crate::reference::pixels::{range, TYPES};
+use crate::reference::reader::Refusal;
 
 /// Room of the calls, in bytes and in pixels.
 const ROOM: usize = 262_144;
@@ -14,16 +14,6 @@ const LISTING_ROOM: usize = 4_194_304;
 
 /// Of a file with more sections, the first ones only are asked for.
 const SOME: usize = 4;
-
-/// A frame by its style: of the whole type, or of 0 to 99.
-pub fn frame(element_type: u8, elements: usize, number: usize, style: usize) -> Vec<i64> {
-    let (least, greatest, _) = range(element_type).expect("one of six");
-    let pixel = |i: usize| match style {
-        1 => least + ((i * 7_919 + number * 104_729 + 17) as i64) % (greatest - least + 1),
-        _ => ((i * i + number) % 100) as i64,
-    };
-    (0..elements).map(pixel).collect()
-}
 
 /// What a section's frame has to fit.
 struct Shape {

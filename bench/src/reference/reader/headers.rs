@@ -1,7 +1,7 @@
 //! The headers of a section.
 
 use super::{refusal, Refusal, FILE_LIMIT};
-use crate::reference::{range, PIXEL_LIMIT};
+use crate::reference::pixels::{range, PIXEL_LIMIT};
 
 /// A header line's name and the text after its colon.
 pub fn split_header(line: &[u8]) -> Option<(&[u8], &[u8])> {
