@@ -61,7 +61,7 @@ def frame_calls(programs, file):
     length, sections, each = size(len(file.bytes)), size(file.sections), size(file.each)
 
     def ours(build):
-        return lambda pixels, stride: driver.ours_frames(build.cbf_unpack, file.bytes, length, sections,
+        return lambda pixels, stride: driver.ours_frames(build.mel_unpack, file.bytes, length, sections,
                                                          pointer(pixels), each, size(stride))
 
     def cbflib(path):
@@ -86,7 +86,7 @@ def replace_calls(programs, file, scratch):
     image = fabio.cbfimage.CbfImage(data=frame.reshape(file.shape))
 
     def ours(build):
-        return lambda: driver.ours_replace(build.cbf_replace, file.bytes, length, pointer(wide), count, pointer(out),
+        return lambda: driver.ours_replace(build.mel_replace, file.bytes, length, pointer(wide), count, pointer(out),
                                            size(out.size), ctypes.byref(used))
 
     def cbflib():
@@ -96,8 +96,8 @@ def replace_calls(programs, file, scratch):
     def same(data):
         """Read by the first build of our library."""
         pixels = numpy.ones(file.each, numpy.int64)
-        word = programs.ours[0].cbf_unpack(data, size(len(data)), size(1), pointer(pixels), count)
-        return word == file.each and numpy.array_equal(pixels, wide)
+        answer = programs.ours[0].mel_unpack(data, size(len(data)), size(1), pointer(pixels), count)
+        return answer.length == file.each and numpy.array_equal(pixels, wide)
 
     def same_out():
         data = out[:used.value].tobytes()
@@ -123,10 +123,10 @@ def fresh_calls(programs, file):
             with open(path, "rb") as stream:
                 data = stream.read()
             pixels = numpy.empty(len(data), numpy.int64)
-            word = build.cbf_unpack(data, size(len(data)), size(1), pointer(pixels), size(pixels.size))
-            if word >> 32:
+            answer = build.mel_unpack(data, size(len(data)), size(1), pointer(pixels), size(pixels.size))
+            if answer.refusal:
                 fail("a file is refused")
-            return pixels[:word].astype(numpy.int32)
+            return pixels[:answer.length].astype(numpy.int32)
         return read
 
     def cbflib():

@@ -8,7 +8,7 @@ SEED = 7
 
 def detector(shape, random):
     """Poisson background of mean 5; a peak on one pixel in 5,000, its four neighbours raised (heights e^3 to e^11);
-    bands of 17 rows of -1 from row 195 on, every 212 rows. As in bench/src/frames.rs."""
+    bands of 17 rows of -1 from row 195 on, every 212 rows. As in bench/src/inputs/frames.rs."""
     pixels = random.poisson(5, shape).astype(numpy.int64).ravel()
     width, last = shape[1], pixels.size - 1
     peaks = numpy.flatnonzero(random.integers(0, 5_000, pixels.size) == 0)

@@ -16,6 +16,11 @@ def pointer(array):
     return ctypes.c_void_p(array.ctypes.data)
 
 
+class Answer(ctypes.Structure):
+    """mel_answer of include/mooringelm.h."""
+    _fields_ = [(name, ctypes.c_uint32) for name in ("refusal", "place", "item", "length")]
+
+
 class Programs:
     """The shared objects: peers.c, and a build of our library for each archive."""
 
@@ -28,7 +33,7 @@ class Programs:
         self.driver.cbflib_packed.restype = ctypes.c_void_p
         self.driver.cbflib_version.restype = ctypes.c_char_p
         for build in self.ours:
-            build.cbf_unpack.restype = ctypes.c_uint64
+            build.mel_unpack.restype = Answer
 
     def version(self):
         return self.driver.cbflib_version().decode()

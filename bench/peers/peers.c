@@ -1,8 +1,9 @@
-/* One call of each program, measured: our library's and CBFlib's. fabio's calls are made in peers.py.
+/* SPDX-License-Identifier: Apache-2.0
  *
- * Our functions come as pointers, for two reasons: several builds of our library can be measured in one process, each
- * a shared object of its own; and include/cbf.h cannot be included beside CBFlib's cbf.h, which has the same name and
- * the same guard, CBF_H. The types of the pointers below are those of include/cbf.h.
+ * One call of each program, measured: our library's and CBFlib's. fabio's calls are made in pixels.py and files.py.
+ *
+ * Our functions come as pointers: several builds of our library can be measured in one process, each a shared object of
+ * its own.
  *
  * Each function here returns the nanoseconds of what it measures, or -1 where that did not do its work. Memory is lent
  * by the caller and was touched before.
@@ -15,6 +16,7 @@
 #include <cbf.h>
 #include <cbf_byte_offset.h>
 #include <cbf_file.h>
+#include <mooringelm.h>
 
 #if __has_include(<valgrind/callgrind.h>)
 #include <valgrind/callgrind.h>
@@ -25,14 +27,10 @@
 #define CALLGRIND_DUMP_STATS_AT(label) (void)(label)
 #endif
 
-typedef uint64_t pack_call(uint8_t element_type, const int64_t *pixels, size_t count, uint8_t *out, size_t room);
-typedef uint64_t unpack_octets_call(uint8_t element_type, uint8_t compression, const uint8_t *octets, size_t octets_len,
-                                    size_t count, int64_t *pixels, size_t room);
-typedef uint64_t unpack_call(const uint8_t *file, size_t file_len, size_t section, int64_t *pixels, size_t room);
-typedef uint64_t replace_call(const uint8_t *file, size_t file_len, size_t section, const int64_t *frame,
-                              size_t frame_len, uint8_t *out, size_t room);
-
-enum { BYTE_OFFSET = 1 };
+typedef __typeof__(mel_pack) pack_call;
+typedef __typeof__(mel_unpack_octets) unpack_octets_call;
+typedef __typeof__(mel_unpack) unpack_call;
+typedef __typeof__(mel_replace) replace_call;
 
 /* The label of the call that instructions are counted for; empty while time is measured. */
 static char counted[256];
@@ -77,18 +75,18 @@ int64_t peers_memcpy(void *to, const void *from, size_t size) {
 int64_t ours_unpack_octets(unpack_octets_call *call, uint8_t element_type, const uint8_t *octets, size_t size,
                            size_t count, int64_t *pixels) {
     peers_begin();
-    uint64_t word = call(element_type, BYTE_OFFSET, octets, size, count, pixels, count);
+    mel_answer answer = call(element_type, MEL_BYTE_OFFSET, octets, size, count, pixels, count);
     int64_t took = peers_end();
-    return word == count ? took : -1;
+    return answer.refusal == 0 && answer.length == count ? took : -1;
 }
 
 int64_t ours_pack(pack_call *call, uint8_t element_type, const int64_t *pixels, size_t count, uint8_t *out, size_t room,
                   size_t *size) {
     peers_begin();
-    uint64_t word = call(element_type, pixels, count, out, room);
+    mel_answer answer = call(element_type, pixels, count, out, room);
     int64_t took = peers_end();
-    *size = (uint32_t)word;
-    return word >> 32 == 0 ? took : -1;
+    *size = answer.length;
+    return answer.refusal == 0 ? took : -1;
 }
 
 /* CBFlib: the codec reads and writes through a cbf_file. One that has no stream is what the library itself packs to and
@@ -151,7 +149,7 @@ int64_t ours_frames(unpack_call *call, const uint8_t *file, size_t file_len, siz
     int right = 1;
     peers_begin();
     for (size_t section = 1; section <= sections; section++)
-        right &= call(file, file_len, section, pixels + (section - 1) * stride, each) == each;
+        right &= call(file, file_len, section, pixels + (section - 1) * stride, each).length == each;
     int64_t took = peers_end();
     return right ? took : -1;
 }
@@ -159,10 +157,10 @@ int64_t ours_frames(unpack_call *call, const uint8_t *file, size_t file_len, siz
 int64_t ours_replace(replace_call *call, const uint8_t *file, size_t file_len, const int64_t *frame, size_t count,
                      uint8_t *out, size_t room, size_t *size) {
     peers_begin();
-    uint64_t word = call(file, file_len, 1, frame, count, out, room);
+    mel_answer answer = call(file, file_len, 1, frame, count, out, room);
     int64_t took = peers_end();
-    *size = (uint32_t)word;
-    return word >> 32 == 0 ? took : -1;
+    *size = answer.length;
+    return answer.refusal == 0 ? took : -1;
 }
 
 /* CBFlib: files. No digest is looked at. A file is read from memory, or by its path where there is one. */

@@ -1,3 +1,4 @@
+# SPDX-License-Identifier: Apache-2.0
 """Measures our library beside CBFlib and fabio in one process, and prints what it took as ratios. See README.md."""
 import argparse
 import gc
@@ -126,7 +127,7 @@ def print_files(rows, builds):
 def print_wrong(rows):
     wrong = sorted({f"{call.column} {call.name} in {row.name.split(',')[0]}" for row in rows for call in row.wrong})
     if wrong:
-        print("\nLeft out, since it does not give the frame or its octets: " + "; ".join(wrong) + ".")
+        print("\nLeft out, since it is made for other numbers or writes other octets: " + "; ".join(wrong) + ".")
 
 
 def processor():

@@ -8,7 +8,7 @@ import numpy
 import frames
 from measure import Call, Row, fail, pointer, python_call, size
 
-# The element type's number in include/cbf.h, and the type of numpy that holds it.
+# The element type's number in include/mooringelm.h, and the type of numpy that holds it.
 TYPES = {"u8": (1, numpy.uint8), "u16": (3, numpy.uint16), "u32": (5, numpy.uint32), "s32": (6, numpy.int32)}
 
 
@@ -46,7 +46,7 @@ class Frame:
 def packed(programs, number, pixels, room):
     """The octets of pixels by the first build of our library."""
     used = ctypes.c_size_t()
-    took = programs.driver.ours_pack(programs.ours[0].cbf_pack, number, pointer(pixels), size(pixels.size),
+    took = programs.driver.ours_pack(programs.ours[0].mel_pack, number, pointer(pixels), size(pixels.size),
                                      pointer(room), size(room.size), ctypes.byref(used))
     if took < 0:
         fail("a frame is not packed")
@@ -58,7 +58,7 @@ def unpack_calls(programs, frame):
     wide, own = frame.room.wide, frame.room.own[frame.name]
 
     def ours(build):
-        return lambda: programs.driver.ours_unpack_octets(build.cbf_unpack_octets, frame.number, octets, length, count,
+        return lambda: programs.driver.ours_unpack_octets(build.mel_unpack_octets, frame.number, octets, length, count,
                                                           pointer(wide))
 
     def cbflib():
@@ -88,7 +88,7 @@ def pack_calls(programs, frame, room):
     driver, count, used = programs.driver, size(frame.count), ctypes.c_size_t()
 
     def ours(build):
-        return lambda: driver.ours_pack(build.cbf_pack, frame.number, pointer(frame.wide), count,
+        return lambda: driver.ours_pack(build.mel_pack, frame.number, pointer(frame.wide), count,
                                         pointer(frame.room.octets), size(room), ctypes.byref(used))
 
     def cbflib(array, signed):

@@ -1,5 +1,6 @@
 // SPDX-License-Identifier: Apache-2.0
-//! Compares the library with an independent implementation on many inputs, and measures its speed beside a straightforward one.
+//! Compares the library with an independent implementation on many inputs, and measures its speed beside a
+//! straightforward one.
 //!
 //! bench               compare, then measure; exit status 1 at the first difference or where a bar is not met
 //! bench compare       compare only
@@ -14,7 +15,7 @@
 //! bench run pixels WHO CALL TYPE PATH TIMES    one call on a frame in a file, that many times
 //! bench run WHO FILE TIMES               one reading of a large file, that many times
 //! bench run WHO CALL FILE TIMES          one call on a file's sections, that many times
-//! bench run replacement CALL TIMES       memcpy, pack, or the number of a frame to replace in a large file, that many times
+//! bench run replacement CALL TIMES       memcpy, pack, or the number of a frame to replace in a large file
 
 mod compare;
 mod inputs;
@@ -45,8 +46,8 @@ fn main() {
             measure::run(&MEASURED.map(|(name, _)| name));
         }
         _ => {
-            println!("usage: bench [compare [WHAT] | transcript CASES | measure WHAT | program PATH | masked .. | run ..]");
-            println!("src/main.rs says what each does");
+            println!("usage: bench [compare [WHAT] | transcript CASES | measure WHAT | program PATH | masked ..]");
+            println!("bench/src/main.rs says what each does");
             std::process::exit(2);
         }
     }

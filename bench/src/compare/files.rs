@@ -1,5 +1,5 @@
-//! The library's answers on whole files against the reader's: the vectors, files by chance, and damaged ones. Canaries stand
-//! as in pixels.rs.
+//! The library's answers on whole files against the reader's: the vectors, files by chance, and damaged ones.
+//! Canaries stand as in pixels.rs.
 
 use super::replacements::{self, Tally as Replacements};
 use super::sections::{self, Tally as Sections};
@@ -119,7 +119,8 @@ impl Run {
         check(file, &read, &mut self.random, &mut self.sections)
     }
 
-    /// The empty file, and files of the greatest length and one byte above it: that one is refused before it is looked at.
+    /// The empty file, and files of the greatest length and one byte above it: that one is refused before it is
+    /// looked at.
     fn lengths(&mut self) -> usize {
         let zeros = vec![0; reader::FILE_LIMIT + 1];
         [0, reader::FILE_LIMIT, reader::FILE_LIMIT + 1]

@@ -13,7 +13,8 @@ mod replacements;
 mod sections;
 pub mod transcript;
 
-/// What is compared, what its calls are, and a function that ends the run at a difference and else tells how many they were.
+/// What is compared, what its calls are, and a function that ends the run at a difference and else tells how many
+/// they were.
 pub const COMPARED: [(&str, &str, fn() -> usize); 7] = [
     ("pixels", "on pixels", pixels::all),
     ("edges", "at the edges of loops", edges::all),

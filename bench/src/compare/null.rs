@@ -48,8 +48,8 @@ const SECTIONS: usize = 8;
 const OCTETS: u8 = 0xa5;
 const PIXEL: i64 = -77;
 
-/// The functions, and whether some call of theirs with NULL is answered without a refusal: no call is without a file, and
-/// a catalogue takes 8 bytes at least.
+/// The functions, and whether some call of theirs with NULL is answered without a refusal: no call is without a file,
+/// and a catalogue takes 8 bytes at least.
 const FUNCTIONS: [(&str, bool); 9] = [
     ("mel_count", false),
     ("mel_section", false),
@@ -67,8 +67,8 @@ const FUNCTIONS: [(&str, bool); 9] = [
 struct Tally([[usize; 2]; FUNCTIONS.len()]);
 
 impl Tally {
-    /// Calls with one NULL and more, each beside the same with other pointers. A call gives its refusal, and its answer with
-    /// the memory that it may have written to.
+    /// Calls with one NULL and more, each beside the same with other pointers. A call gives its refusal, and its
+    /// answer with the memory that it may have written to.
     fn check<const N: usize, A: PartialEq + Debug>(
         &mut self,
         name: &str,

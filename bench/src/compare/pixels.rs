@@ -1,5 +1,5 @@
-//! The library's answers on pixels against the reference's, with the contents of every lent slice: canaries stand beyond
-//! the answer, and in all of it where the call is refused.
+//! The library's answers on pixels against the reference's, with the contents of every lent slice: canaries stand
+//! beyond the answer, and in all of it where the call is refused.
 
 use super::{calls, differ};
 use crate::inputs::chance::{overlong, pixels};
@@ -53,7 +53,8 @@ pub fn check_unpack(
     if got != answer || out != after {
         let (shown, size) = (&octets[..octets.len().min(SHOWN)], octets.len());
         differ(format!(
-            "unpack type {element_type} compression {compression} count {count} room {room} {size} octets {shown:02x?}: {got:?}, and not {answer:?}"
+            "unpack type {element_type} compression {compression} count {count} room {room} {size} octets \
+            {shown:02x?}: {got:?}, and not {answer:?}"
         ));
     }
     answer.refusal
@@ -151,7 +152,8 @@ fn round(element_type: u8, random: &mut Random) -> usize {
     calls + outside(element_type, frame, random) + octets_by_chance(element_type, n, random)
 }
 
-/// Runs of plain octets to each end of the type and one beyond, at each place of a block; an escape at each place of a block.
+/// Runs of plain octets to each end of the type and one beyond, at each place of a block; an escape at each place of
+/// a block.
 fn blocks(element_type: u8, random: &mut Random) -> usize {
     let (least, greatest, _) = reference::range(element_type).unwrap();
     let mut calls = 0;

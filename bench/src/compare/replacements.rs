@@ -1,5 +1,5 @@
-//! The library's replacements against the reference's. What is lent stands in a longer slice of canaries: all of that is
-//! compared, so that a byte before it, after it, or beyond the answer shows.
+//! The library's replacements against the reference's. What is lent stands in a longer slice of canaries: all of that
+//! is compared, so that a byte before it, after it, or beyond the answer shows.
 
 use super::{calls, differ};
 use crate::inputs::chance::pixels;

@@ -103,8 +103,8 @@ fn pixel(element_type: u8, random: &mut Random) -> i64 {
     }
 }
 
-/// A difference of 1, 3, 7 or 15 octets, any number of them before the edge of a window, and few octets after it; or an end
-/// before the edge.
+/// A difference of 1, 3, 7 or 15 octets, any number of them before the edge of a window, and few octets after it; or
+/// an end before the edge.
 fn across_an_edge(element_type: u8, random: &mut Random) -> Content {
     let narrowest = random.below(4);
     let width = [1, 3, 7, 15][narrowest];

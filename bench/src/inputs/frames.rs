@@ -15,8 +15,8 @@ pub const SMALL: Size = (WIDTH, HEIGHT);
 /// A large detector: four rows of five small frames, with gaps of 17 rows and 7 columns.
 pub const LARGE: Size = (5 * WIDTH + 4 * 7, 4 * HEIGHT + 3 * 17);
 
-/// Poisson background of mean 5; a peak on one pixel in 5,000, its four neighbours raised (heights e^3 to e^11); in signed
-/// types bands of 17 rows of -1 from row 195 on, every 212 rows. Counts are cut to the type.
+/// Poisson background of mean 5; a peak on one pixel in 5,000, its four neighbours raised (heights e^3 to e^11); in
+/// signed types bands of 17 rows of -1 from row 195 on, every 212 rows. Counts are cut to the type.
 fn detector(element_type: u8, (width, height): Size, random: &mut Random) -> Vec<i64> {
     let (least, greatest, _) = range(element_type).unwrap();
     let count = width * height;
@@ -47,7 +47,8 @@ fn detector(element_type: u8, (width, height): Size, random: &mut Random) -> Vec
     pixels.iter().map(|&p| p.min(greatest)).collect()
 }
 
-/// A random number of the type's width, shifted right at random: by 25, 17, 4 or 1 of 32 bits, and fewer in narrower types.
+/// A random number of the type's width, shifted right at random: by 25, 17, 4 or 1 of 32 bits, and fewer in narrower
+/// types.
 fn noise(element_type: u8, (width, height): Size, random: &mut Random) -> Vec<i64> {
     let (least, _, octets) = range(element_type).unwrap();
     let bits = 8 * octets as u32;
@@ -90,8 +91,8 @@ impl Counts {
 }
 
 /// Poisson background whose mean is 200 and goes smoothly from 140 to 260, in whole steps; 5 % of the pixels are in
-/// peaks of 3 × 3 (heights e^5 to e^9, a half of that beside the middle and a quarter in the corners), so that 5 % of the
-/// differences take three octets and none takes more. Counts are cut to the type.
+/// peaks of 3 × 3 (heights e^5 to e^9, a half of that beside the middle and a quarter in the corners), so that 5 % of
+/// the differences take three octets and none takes more. Counts are cut to the type.
 fn strong(element_type: u8, (width, height): Size, random: &mut Random) -> Vec<i64> {
     let (_, greatest, _) = range(element_type).unwrap();
     let counts: Vec<Counts> = (0..=260).map(|mean| Counts::new(f64::from(mean))).collect();

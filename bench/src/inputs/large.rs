@@ -167,7 +167,8 @@ pub fn exposures<'o>(
     for (index, octets) in frames.enumerate() {
         let (number, size, elements) = (index + 1, octets.len(), width * height);
         let text = format!(
-            "\r\ndata_image_{number}\r\n\r\n_array_data.header_convention \"SLS_1.0\"\r\n_array_data.header_contents\r\n;\r\n\
+            "\r\ndata_image_{number}\r\n\r\n_array_data.header_convention \"SLS_1.0\"\r\n\
+            _array_data.header_contents\r\n;\r\n\
             # Exposure_time 0.200000 s\r\n# Start_angle {:.4} deg.\r\n;\r\n\r\n_array_data.data\r\n;\r\n\
             --CIF-BINARY-FORMAT-SECTION--\r\n\
             Content-Type: application/octet-stream;\r\n     conversions=\"x-CBF_BYTE_OFFSET\"\r\n\

@@ -1,5 +1,5 @@
-//! The speed of the calls on sections: unpacking in BINARY beside unpacking the octets alone, unpacking in BASE64 beside a
-//! straightforward peer, and the catalogue beside the count.
+//! The speed of the calls on sections: unpacking in BINARY beside unpacking the octets alone, unpacking in BASE64
+//! beside a straightforward peer, and the catalogue beside the count.
 
 use super::clock;
 use super::valgrind::instructions;
@@ -18,7 +18,8 @@ const BASE64_BARS: [(&str, f64); 4] = [
     ("base64_u16", 30.9),
 ];
 
-/// The catalogue reads the file twice: it may take the instructions of so many counts, and one more for each byte that it writes.
+/// The catalogue reads the file twice: it may take the instructions of so many counts, and one more for each byte
+/// that it writes.
 const CATALOGUE_BAR: f64 = 2.0;
 
 /// How often each of two calls has its turn, and how often it is timed then.
@@ -46,8 +47,8 @@ fn many_sections() -> Input {
     }
 }
 
-/// The file `sections`, or one with a section: its encoding and its frame. u16 is detector-like and uncompressed, the others
-/// are s32 and byte offset.
+/// The file `sections`, or one with a section: its encoding and its frame. u16 is detector-like and uncompressed, the
+/// others are s32 and byte offset.
 fn input(name: &str) -> Input {
     let (base64, frame) = match name.split_once('_') {
         Some((encoding, frame)) => (encoding == "base64", frame),
@@ -138,7 +139,8 @@ fn costs(calls: [(&str, &str); 2], name: &str) -> [Cost; 2] {
     })
 }
 
-/// Prints a row: the instructions of both calls and what they are to each other, nanoseconds of both; each divided by `units`.
+/// Prints a row: the instructions of both calls and what they are to each other, nanoseconds of both; each divided by
+/// `units`.
 fn row(
     name: &str,
     units: f64,
@@ -167,7 +169,10 @@ fn met(what: &str, value: Option<f64>, bar: f64) -> bool {
 }
 
 fn measure_binary() -> bool {
-    println!("| mel_unpack, BINARY, a pixel | instructions | mel_unpack_octets | more | nanoseconds | mel_unpack_octets |");
+    println!(
+        "| mel_unpack, BINARY, a pixel | instructions | mel_unpack_octets | more | nanoseconds \
+        | mel_unpack_octets |"
+    );
     println!("|---|---|---|---|---|---|");
     let mut all = true;
     for name in ["binary_detector", "binary_noise", "binary_strong"] {
@@ -200,7 +205,8 @@ fn measure_base64() -> bool {
 }
 
 fn measure_catalogue() -> bool {
-    println!("| mel_catalogue, a section | instructions | mel_count | in counts, less 1 a byte | nanoseconds | mel_count |");
+    println!("| mel_catalogue, a section | instructions | mel_count | in counts, less 1 a byte | nanoseconds \
+        | mel_count |");
     println!("|---|---|---|---|---|---|");
     let costs = costs([("ours", "catalogue"), ("ours", "count")], "sections");
     let in_counts = |catalogue, count| (catalogue - CATALOGUE as f64 / SECTIONS as f64) / count;

@@ -5,7 +5,8 @@ use crate::inputs::large;
 use crate::reference::reader;
 use std::hint::black_box;
 
-/// The library's instructions for one reading of text or of headers may not pass the straightforward reader's times this.
+/// The library's instructions for one reading of text or of headers may not pass the straightforward reader's times
+/// this.
 const RATIO_BAR: f64 = 1.0;
 
 /// The library's instructions a BASE64 letter that may not be passed.
@@ -19,8 +20,8 @@ const ROOM: usize = 65_536;
 
 const FILES: [&str; 4] = ["text", "headers", "base64", "octets"];
 
-/// The file, its bytes or letters (or 1), and what refuses it. All but the last are refused at their very end, so that one
-/// reading is measured: a listing that is not refused takes two, one to measure it and one to write it.
+/// The file, its bytes or letters (or 1), and what refuses it. All but the last are refused at their very end, so
+/// that one reading is measured: a listing that is not refused takes two, one to measure it and one to write it.
 fn file(name: &str) -> (Vec<u8>, usize, Option<u32>) {
     let refused_in_last_line = |mut file: Vec<u8>| {
         file.extend_from_slice(b"\x01\r\n");

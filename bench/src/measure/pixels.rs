@@ -1,6 +1,7 @@
 //! The speed of packing and unpacking pixels, beside plain Rust: each call on frames of several kinds and types.
 //!
-//! Times are of the thread, the least of many rounds; each round takes the frames in a new order, and the calls on each.
+//! Times are of the thread, the least of many rounds; each round takes the frames in a new order, and the calls on
+//! each.
 
 use super::bars::bar;
 use super::clock;

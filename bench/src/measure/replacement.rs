@@ -123,10 +123,12 @@ pub fn measure() -> bool {
     check(&mut input);
     let (width, height) = frames::LARGE;
     println!(
-        "mel_replace in {} bytes, {FRAMES} frames of {width} × {height}; instructions and nanoseconds a byte of the file",
+        "mel_replace in {} bytes, {FRAMES} frames of {width} × {height}; a byte of the file:",
         input.file.len()
     );
-    println!("| frame | instructions above mel_pack | memcpy | ratio | nanoseconds above mel_pack | memcpy | ratio |");
+    println!(
+        "| frame | instructions above mel_pack | memcpy | ratio | nanoseconds above mel_pack | memcpy | ratio |"
+    );
     println!("|---|---|---|---|---|---|---|");
     let times = nanoseconds(&mut input).map(|time| time / input.file.len() as f64);
     let counts = instructions().map(|counts| counts.map(|c| c / input.file.len() as f64));

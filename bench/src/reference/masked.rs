@@ -1,4 +1,5 @@
-//! What examples/replace.c does, by the reader and the reference alone: the file that it is to write, and what it is to print.
+//! What examples/replace.c does, by the reader and the reference alone: the file that it is to write, and what it is
+//! to print.
 
 use super::{reader, replacement, sections};
 

@@ -1,5 +1,5 @@
-//! Pixels packed and unpacked in straightforward Rust, written from document 01 and not from the library: what the library's
-//! answers are held to, and what its speed is measured beside.
+//! Pixels packed and unpacked in straightforward Rust, written from document 01 and not from the library: what the
+//! library's answers are held to, and what its speed is measured beside.
 
 pub const PIXEL_LIMIT: usize = 67_108_864;
 

@@ -1,5 +1,5 @@
-//! A file read in straightforward Rust, written from document 01 and not from the library: what the library's readings are
-//! held to, and what their speed is measured beside.
+//! A file read in straightforward Rust, written from document 01 and not from the library: what the library's
+//! readings are held to, and what their speed is measured beside.
 
 mod headers;
 mod letters;

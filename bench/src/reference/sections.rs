@@ -1,5 +1,5 @@
-//! What the calls on one section say, in straightforward Rust, written from document 01 and not from the library: what the
-//! library's answers are held to, and what their speed is measured beside.
+//! What the calls on one section say, in straightforward Rust, written from document 01 and not from the library:
+//! what the library's answers are held to, and what their speed is measured beside.
 
 use super::pixels;
 use super::reader::{self, Refusal, Section};

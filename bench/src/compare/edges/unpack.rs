@@ -319,14 +319,15 @@ fn jumps(kind: Kind, edges: &mut Edges) {
     }
 }
 
-/// How far from the pixel before them some pixel of octets with escapes is: a window of 32,768 numbers ends about there.
+/// How far from the pixel before them some pixel of octets with escapes is: a window of 32,768 numbers ends about
+/// there.
 const REACH: [i64; 10] = [
     0, 1, 16_382, 16_383, 16_384, 16_385, 32_766, 32_767, -16_384, -16_385,
 ];
 
-/// Octets with escapes that stand apart, the last of them about the end of those that are looked at together, from pixels
-/// at the distances from an end of the type at which a window or a sum is no longer enough. One pixel is at that end, one
-/// beyond it, or at the end of a window.
+/// Octets with escapes that stand apart, the last of them about the end of those that are looked at together, from
+/// pixels at the distances from an end of the type at which a window or a sum is no longer enough. One pixel is at
+/// that end, one beyond it, or at the end of a window.
 fn apart(kind: Kind, edges: &mut Edges) {
     let far = 32_768 * APART as i64;
     let away = [0, 1, 16_383, 16_384, 32_767, 32_768, far - 1, far, far + 1];
