@@ -45,11 +45,11 @@ const LONGEST: usize = 4_096;
 const SECTIONS: usize = 8;
 
 /// Memory before a call.
-const OCTETS: u8 = 0xa5;
+const OCTET: u8 = 0xa5;
 const PIXEL: i64 = -77;
 
-/// The functions, and whether some call of theirs with NULL is answered without a refusal: no call is without a file,
-/// and a catalogue takes 8 bytes at least.
+/// The functions, and whether a call with NULL can go without a refusal: without a file none can, and a catalogue takes
+/// 8 bytes at least.
 const FUNCTIONS: [(&str, bool); 9] = [
     ("mel_count", false),
     ("mel_section", false),
@@ -126,7 +126,7 @@ fn whole_file(file: &[u8], tally: &mut Tally) {
     ];
     for (name, function) in functions {
         tally.check(name, |[file_lent, out_lent]: [Lent; 2]| {
-            let mut out = vec![OCTETS; ROOM];
+            let mut out = vec![OCTET; ROOM];
             let ((file, length), (to, room)) = (read(file, file_lent), written(&mut out, out_lent));
             let answer = unsafe { function(file, length, to, room) };
             (answer.refusal, (answer, out))
@@ -158,7 +158,7 @@ fn one_section(file: &[u8], number: usize, section: Option<&Section>, tally: &mu
     tally.check(
         "mel_replace",
         |[file_lent, frame_lent, out_lent]: [Lent; 3]| {
-            let mut out = vec![OCTETS; mooringelm::replaced_limit(file.len(), frame.len())];
+            let mut out = vec![OCTET; mooringelm::replaced_limit(file.len(), frame.len())];
             let ((file, length), (to, room)) = (read(file, file_lent), written(&mut out, out_lent));
             let (from, count) = read(&frame, frame_lent);
             let answer = unsafe { raw::mel_replace(file, length, number, from, count, to, room) };
@@ -187,7 +187,7 @@ fn pixels(tally: &mut Tally) {
     for element_type in 0..=7 {
         for frame in [&frame[..0], &frame] {
             tally.check("mel_pack", |[frame_lent, out_lent]: [Lent; 2]| {
-                let mut out = vec![OCTETS; 15 * frame.len() + 1];
+                let mut out = vec![OCTET; 15 * frame.len() + 1];
                 let ((from, count), (to, room)) =
                     (read(frame, frame_lent), written(&mut out, out_lent));
                 let answer = unsafe { raw::mel_pack(element_type, from, count, to, room) };

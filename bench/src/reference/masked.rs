@@ -1,5 +1,4 @@
-//! What examples/replace.c does, by the reader and the reference alone: the file that it is to write, and what it is
-//! to print.
+//! What examples/replace.c does: the file that it is to write, and what it is to print.
 
 use super::{reader, replacement, sections};
 

@@ -1,4 +1,5 @@
-//! The independent implementation: straightforward Rust, written from document 01 and not from the library.
+//! The independent implementation: straightforward Rust, written from document 01 and not from the library. What the
+//! library's answers are held to, and what its speed is measured beside.
 
 pub mod masked;
 pub mod pixels;

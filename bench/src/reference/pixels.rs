@@ -1,5 +1,4 @@
-//! Pixels packed and unpacked in straightforward Rust, written from document 01 and not from the library: what the
-//! library's answers are held to, and what its speed is measured beside.
+//! Pixels packed and unpacked, and the peer in the tables of speed.
 
 pub const PIXEL_LIMIT: usize = 67_108_864;
 

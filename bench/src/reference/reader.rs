@@ -1,5 +1,4 @@
-//! A file read in straightforward Rust, written from document 01 and not from the library: what the library's
-//! readings are held to, and what their speed is measured beside.
+//! A file read, its listing and its catalogue.
 
 mod headers;
 mod letters;

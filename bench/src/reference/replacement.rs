@@ -1,5 +1,4 @@
-//! Replacement in straightforward Rust, written from document 01 and not from the library: what the library's answers
-//! are held to.
+//! Replacement of a frame.
 
 use super::pixels;
 use super::reader::{Read, Refusal, Section, CLOSING, FILE_LIMIT, MARKER, OPENING};

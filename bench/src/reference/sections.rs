@@ -1,5 +1,4 @@
-//! What the calls on one section say, in straightforward Rust, written from document 01 and not from the library:
-//! what the library's answers are held to, and what their speed is measured beside.
+//! What the calls on one section say, and the peer in the table of their speed.
 
 use super::pixels;
 use super::reader::{self, Refusal, Section};
