@@ -7,6 +7,7 @@ import os
 import re
 import subprocess
 import sys
+import textwrap
 
 import fabio
 
@@ -124,10 +125,15 @@ def print_files(rows, builds):
     print_wrong(rows)
 
 
+def paragraph(text):
+    print(textwrap.fill(text, 108, break_long_words=False, break_on_hyphens=False))
+
+
 def print_wrong(rows):
     wrong = sorted({f"{call.column} {call.name} in {row.name.split(',')[0]}" for row in rows for call in row.wrong})
     if wrong:
-        print("\nLeft out, since it is made for other numbers or writes other octets: " + "; ".join(wrong) + ".")
+        print()
+        paragraph("Left out, since it is made for other numbers or writes other octets: " + "; ".join(wrong) + ".")
 
 
 def processor():
@@ -150,8 +156,9 @@ def main():
     measure.measure(pixel_rows + file_rows, rounds)
     if not asked.no_instructions:
         count(pixel_rows, asked)
-    print(f"`{asked.said}`: {programs.version()}, fabio {fabio.version}; {processor()}; "
-          f"frames of {shape[1]} × {shape[0]}; {rounds} rounds.\n")
+    paragraph(f"`{asked.said}`: {programs.version()}, fabio {fabio.version}; {processor()}; "
+              f"frames of {shape[1]} × {shape[0]}; {rounds} rounds.")
+    print()
     print_pixels(pixel_rows, len(asked.ours))
     if file_rows:
         print_files(file_rows, len(asked.ours))
