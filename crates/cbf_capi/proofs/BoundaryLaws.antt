@@ -18,7 +18,7 @@ use Rattle.cbf_capi.specs.declared.Compressed.{Compressed}
 use Rattle.cbf_pixels.specs.Pixels.{least, greatest, allWithin, packByteOffset}
 use Rattle.cbf_answers.specs.Answers.{Outcome, gives, refuses, written}
 use Rattle.cbf_pixels.specs.PixelCalls.{isSome, packOutcome, packOutput, unpackPixels, unpackOutcome, unpackOutput}
-use Rattle.cbf_answers.specs.Limits.{pixelLimit, octetLimit, lineLimit, fileLimit}
+use Rattle.cbf_answers.specs.Limits.{pixelLimit, octetLimit, fileLimit}
 use Rattle.cbf_walk.specs.Reading.{Item, Reading, good}
 use Rattle.cbf_format.specs.declared.Encoding.{Encoding}
 use Rattle.cbf_format.specs.declared.Encoding.the-variants.{Binary, Base64}
