@@ -22,8 +22,8 @@ class Section:
     number: int
     block: str
     """The name of its data block, without `data_`; empty where it stands in none."""
-    shape: Tuple[int, ...]
-    """Slowest dimension first; the number of elements alone where the headers give no dimensions."""
+    dimensions: Tuple[int, ...]
+    """Those that the headers give, slowest first."""
     type: str
     """The element type as in a listing: u8, s8, u16, s16, u32 or s32."""
     size: int
@@ -42,6 +42,11 @@ class Section:
     path: Optional[str]
     _kind: ElementType = field(repr=False)
     _file: bytes = field(repr=False, compare=False)
+
+    @property
+    def shape(self) -> Tuple[int, ...]:
+        """Slowest dimension first; the number of elements alone where the headers give no dimensions."""
+        return self.dimensions or (self.elements,)
 
     @property
     def dtype(self) -> str:
@@ -91,7 +96,7 @@ def described(file: bytes, number: int, path: Optional[str] = None) -> Section:
     return Section(
         number=number,
         block=file[answer.name_start : answer.name_start + answer.name_length].decode("ascii"),
-        shape=dimensions or (answer.elements,),
+        dimensions=dimensions,
         type=kind.name,
         size=answer.size,
         elements=answer.elements,
