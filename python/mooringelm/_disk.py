@@ -91,7 +91,7 @@ class Held:
             except BaseException:
                 _passed_over(lambda: os.unlink(temporary))
                 raise
-            _sync_folder(folder)
+            self._sync_folder(folder)
         finally:
             _unlock(file)
 
@@ -115,6 +115,18 @@ class Held:
             raise OSError(
                 errno.ESTALE, "changed during the edit by a program that takes no lock; nothing was written", self.path
             )
+
+    def _sync_folder(self, folder: str) -> None:
+        """11. Some systems do not do that on a folder."""
+        file = os.open(folder, os.O_RDONLY | os.O_DIRECTORY | os.O_CLOEXEC)
+        try:
+            os.fsync(file)
+        except OSError as error:
+            if error.errno != errno.EINVAL:
+                text = f"written, but its folder could not be flushed to the disk: {error.strerror}"
+                raise OSError(error.errno, text, self.path) from error
+        finally:
+            os.close(file)
 
     def release(self) -> None:
         _unlock(self._file)
@@ -202,14 +214,3 @@ def _copy_attributes(old: int, new: int) -> None:
         if name.startswith(_ATTRIBUTES):
             _passed_over(lambda: os.setxattr(new, name, os.getxattr(old, name)))
 
-
-def _sync_folder(folder: str) -> None:
-    """11. Some systems do not do that on a folder."""
-    file = os.open(folder, os.O_RDONLY | os.O_DIRECTORY | os.O_CLOEXEC)
-    try:
-        os.fsync(file)
-    except OSError as error:
-        if error.errno != errno.EINVAL:
-            raise
-    finally:
-        os.close(file)
