@@ -66,12 +66,8 @@ class Held:
     def __init__(self, path: str, wait: Optional[float]) -> None:
         self.path = path
         self._file, self.target = _open_locked(path, wait)
-        try:
-            # 5. What it is now; the last look compares it.
-            self._seen = os.fstat(self._file)
-        except BaseException:
-            self.release()
-            raise
+        # 5. What it is before it is read; the last look compares it.
+        self._seen = os.fstat(self._file)
 
     def read(self) -> bytes:
         with io.FileIO(self._file, "rb", closefd=False) as file:

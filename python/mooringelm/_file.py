@@ -1,5 +1,5 @@
 # SPDX-License-Identifier: Apache-2.0
-"""Files for reading. A file is read whole, and not mapped: what is lent to the library must not change during a call."""
+"""Files for reading. A file is read whole and not mapped: what is lent to the library must not change during a call."""
 
 from __future__ import annotations
 
@@ -11,7 +11,7 @@ from . import _sections
 from ._library import FILE_LIMIT
 from ._memory import unchanging
 from ._pixels import Pixels, widened
-from ._refusals import refused
+from ._refusals import Refused
 from ._sections import Section
 
 _PART = 1 << 20
@@ -41,9 +41,6 @@ class Sections:
     def __iter__(self) -> Iterator[Section]:
         for number in range(1, len(self) + 1):
             yield self[number]
-
-    def __contains__(self, section: object) -> bool:
-        return isinstance(section, int) and 1 <= section <= len(self)
 
     def listing(self) -> str:
         """A line for each section: number, position, size, elements, compression, type and data block."""
@@ -99,7 +96,7 @@ class File(Sections):
 def contents(file: BinaryIO, length: int, path: Optional[str]) -> bytes:
     """All of a file that is probably so long; refusal 4 for one that is too long, which is not read whole."""
     if length > FILE_LIMIT:
-        raise refused(4, path=path)
+        raise Refused(4, path=path)
     parts: List[bytes] = []
     total = 0
     while total <= FILE_LIMIT:
@@ -110,7 +107,7 @@ def contents(file: BinaryIO, length: int, path: Optional[str]) -> bytes:
             return b"".join(parts)
         parts.append(part)
         total += len(part)
-    raise refused(4, path=path)
+    raise Refused(4, path=path)
 
 
 def _source(source: Any) -> Tuple[bytes, Optional[str]]:

@@ -1,6 +1,6 @@
 # SPDX-License-Identifier: Apache-2.0
-"""Frames: pixels in the section's own type and shape, as a buffer. A frame is an array of ctypes, which is what gives it
-the buffer protocol in every version of Python."""
+"""Frames: pixels in the section's own type and shape, as a buffer. A frame is an array of ctypes, which gives it the
+buffer protocol in every version of Python."""
 
 from __future__ import annotations
 

@@ -7,7 +7,7 @@ import ctypes
 import os
 import sys
 from pathlib import Path
-from typing import Any, Iterator, List
+from typing import Any, Iterator, List, Tuple
 
 FILE_LIMIT = 1_073_741_824
 SECTION_LIMIT = 512
@@ -19,24 +19,30 @@ _VARIABLE = "MOORINGELM_LIBRARY"
 _NAME = "libmooringelm.so"
 _SONAME = "libmooringelm.so.0.1"
 
-_u8, _u32, _u64, _size, _pointer = (
-    ctypes.c_uint8, ctypes.c_uint32, ctypes.c_uint64, ctypes.c_size_t, ctypes.c_void_p,
-)  # fmt: skip
+_u8 = ctypes.c_uint8
+_u32 = ctypes.c_uint32
+_size = ctypes.c_size_t
+_pointer = ctypes.c_void_p
+
+
+def _fields(names: str, kind: Any) -> List[Tuple[str, Any]]:
+    return [(name, kind) for name in names.split()]
 
 
 class Answer(ctypes.Structure):
-    _fields_ = [(name, _u32) for name in ("refusal", "place", "item", "length")]
+    _fields_ = _fields("refusal place item length", _u32)
 
 
 class OctetsAnswer(ctypes.Structure):
-    _fields_ = [(name, _u32) for name in ("refusal", "place", "item", "length")] + [("start", _u64)]
+    _fields_ = _fields("refusal place item length", _u32) + _fields("start", ctypes.c_uint64)
 
 
 class SectionAnswer(ctypes.Structure):
-    _words = "refusal place item boundary span_end position size elements id fastest second third name_start name_length"
-    _fields_ = [(name, _u32) for name in _words.split()] + [
-        (name, _u8) for name in ("compression", "type", "encoding")
-    ]
+    _fields_ = (
+        _fields("refusal place item boundary span_end position size elements", _u32)
+        + _fields("id fastest second third name_start name_length", _u32)
+        + _fields("compression type encoding", _u8)
+    )
 
 
 _FUNCTIONS = {

@@ -4,9 +4,12 @@ to meanwhile: files as bytes, which cannot change, and pixels and results in mem
 
 from __future__ import annotations
 
+import contextlib
 import ctypes
 import mmap
 from typing import Any
+
+_LARGE = 1 << 22
 
 
 def unchanging(data: Any) -> bytes:
@@ -22,5 +25,9 @@ def address(memory: Any) -> int:
 
 def room(length: int) -> mmap.mmap:
     """Memory to write to, of that many bytes or a few more. The system gives it page by page as it is written to, so
-    that room for the longest answer costs no more than the answer."""
-    return mmap.mmap(-1, max(length, 1), flags=mmap.MAP_PRIVATE | mmap.MAP_ANONYMOUS)
+    that room for the longest answer costs no more than the answer, and large pages take less time."""
+    out = mmap.mmap(-1, max(length, 1), flags=mmap.MAP_PRIVATE | mmap.MAP_ANONYMOUS)
+    if length >= _LARGE:
+        with contextlib.suppress(OSError):
+            out.madvise(mmap.MADV_HUGEPAGE)
+    return out

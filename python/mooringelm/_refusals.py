@@ -34,8 +34,8 @@ def refusal_text(number: int) -> str:
 
 
 class Refused(Exception):
-    """The library's refusal: its number, the place in the file where it was met (0 where it has none) and the item (0 in
-    all of today's calls); the section that was asked for and the file's path, where they are known."""
+    """The library's refusal: its number, the place in the file where it was met (0 where it has none) and the item (0
+    in all of today's calls); the section that was asked for and the file's path, where they are known."""
 
     def __init__(
         self, number: int, place: int = 0, item: int = 0, section: Optional[int] = None, path: Optional[str] = None
@@ -62,14 +62,6 @@ class NoSection(Refused, IndexError):
 
     def __str__(self) -> str:
         return f"{super().__str__()}; sections are numbered from 1"
-
-
-def refused(
-    number: int, place: int = 0, item: int = 0, section: Optional[int] = None, path: Optional[str] = None
-) -> Refused:
-    """The exception for a refusal number."""
-    kind = NoSection if number == 12 else Refused
-    return kind(number, place, item, section, path)
 
 
 class Busy(Exception):

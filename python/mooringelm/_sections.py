@@ -11,7 +11,7 @@ from ._frame import Frame, frame_of
 from ._library import CATALOGUE_LIMIT, FILE_LIMIT, LISTING_LIMIT, SECTION_LIMIT, library
 from ._memory import address, room
 from ._pixels import Pixels, narrowed, numpy_or_none
-from ._refusals import refused
+from ._refusals import NoSection, Refused
 from ._types import COMPRESSIONS, ELEMENT_TYPES, ENCODINGS, ElementType
 
 
@@ -74,7 +74,8 @@ class Section:
 def checked(answer: Any, section: Optional[int] = None, path: Optional[str] = None) -> Any:
     """The answer, where it is no refusal."""
     if answer.refusal:
-        raise refused(answer.refusal, answer.place, answer.item, section, path)
+        kind = NoSection if answer.refusal == 12 else Refused
+        raise kind(answer.refusal, answer.place, answer.item, section, path)
     return answer
 
 

@@ -1,13 +1,14 @@
 # SPDX-License-Identifier: Apache-2.0
-"""CBF files in fabio through the proved library: once this module is imported, `fabio.open` reads them so. Each section
-of a file is a frame, in two dimensions where it has no more. Its header has what the library knows of the section, under
-the names of the CBF headers, and the name of the data block; the experiment's own tags are not read. A file that the
-library refuses is refused here too; `fabio.cbfimage.CbfImage().read(path)` is fabio's own reader. Writing is fabio's."""
+"""CBF files in fabio through the proved library: once this module is imported, `fabio.open` reads them so. Each
+section of a file is a frame, in two dimensions where it has no more. Its header has what the library knows of the
+section, under the names of the CBF headers, and the name of the data block; the experiment's own tags are not read. A
+file that the library refuses is refused here too; `fabio.cbfimage.CbfImage().read(path)` is fabio's own reader. Writing
+is fabio's."""
 
 from __future__ import annotations
 
 import importlib
-from typing import Any, Dict, Optional
+from typing import Any, Dict, Optional, Tuple
 
 from ._file import File, open
 from ._sections import Section
@@ -39,12 +40,14 @@ def _header(section: Section) -> Dict[str, str]:
     return header
 
 
+def _shape(section: Section) -> Tuple[int, ...]:
+    """As fabio has images: a line is one of a single row, and a third dimension of 1 is left out."""
+    shape = section.shape
+    return shape if len(shape) == 3 and shape[0] > 1 else (1, *shape)[-2:]
+
+
 def _image(section: Section) -> Any:
-    """The pixels as fabio has images: a line is one of a single row, and a third dimension of 1 is left out."""
-    pixels = section.array()
-    if pixels.ndim == 1:
-        return pixels.reshape(1, -1)
-    return pixels[0] if pixels.ndim == 3 and len(pixels) == 1 else pixels
+    return section.array().reshape(_shape(section))
 
 
 class CbfImage(_Base):  # type: ignore[misc]
@@ -54,6 +57,7 @@ class CbfImage(_Base):  # type: ignore[misc]
     DEFAULT_EXTENSIONS = ["cbf"]
 
     _sections: Optional[File] = None
+    _shape: Optional[Tuple[int, ...]]
 
     def read(self, fname: Any, frame: Optional[int] = None) -> CbfImage:
         """The file, at its first frame or another."""
@@ -65,14 +69,16 @@ class CbfImage(_Base):  # type: ignore[misc]
         """The whole file is read, since it is accepted or refused as a whole."""
         self._sections = open(stream)
         self._nframes = len(self._sections)
-        self.header = self.check_header(_header(self._sections[1]) if self._nframes else None)
+        first = self._section(0)
+        self.header = self.check_header(_header(first))
+        self._shape = _shape(first)
 
     def _show(self, frame: int) -> CbfImage:
         section = self._section(frame)
         self.data = _image(section)
         self.header = self.check_header(_header(section))
         self.currentframe = frame
-        self._shape = self._dtype = None
+        self._shape = None
         self.resetvals()
         return self
 

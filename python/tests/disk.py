@@ -47,7 +47,8 @@ def left_behind(path):
 
 def two_at_once(path):
     """Frames 7 and 12 by two processes, again and again: no edit is lost, and the end is one file."""
-    both, lost = forty({7, 12}), {forty({12}): "the edit of frame 7 is lost", NEW: "the edit of frame 12 is lost"}
+    both = forty({7, 12})
+    lost = {forty({12}): "the edit of frame 7 is lost", NEW: "the edit of frame 12 is lost"}
     for turn in range(ROUNDS):
         path.write_bytes(OLD)
         gate = Gate()
@@ -105,7 +106,7 @@ def kills(path):
         with mooringelm.edit(path, wait=0) as e:
             e[12] = mask(e[12].array())
         equal(left_behind(path), [], "temporary files after the next edit")
-    say(f"{KILLS} kills: {counts[OLD]} old, {counts[NEW]} new, 0 other; {left} temporary files left behind, all removed")
+    say(f"{KILLS} kills: {counts[OLD]} old, {counts[NEW]} new, 0 other; {left} temporary files left, all removed")
 
 
 def file_size_limit(path):

@@ -136,7 +136,8 @@ def no_frames():
             (ValueError, "shape", NUMPY.ascontiguousarray(a.T)),
             (TypeError, "filled", NUMPY.ma.masked_greater(a, 3)),
         ]
-        equal(raised(mooringelm.Refused, lambda: f.replaced(1, a.astype("uint64") + NUMPY.uint64(1 << 63)), "u64").number, 14)
+        great = a.astype("uint64") + NUMPY.uint64(1 << 63)
+        equal(raised(mooringelm.Refused, lambda: f.replaced(1, great), "u64").number, 14)
         equal(f.replaced(1, a.reshape(-1)), data, "flat")
         equal(f.replaced(1, a.reshape(1, 4, 6)), data, "a dimension of 1")
     for kind, word, value in wrong:

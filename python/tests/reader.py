@@ -34,7 +34,9 @@ def forty_frames(fabio, place):
         for number in (-1, 40):
             raised(IndexError, lambda: image.get_frame(number), "frame", number)
     equal(fabio.open(str(path), 11).data.reshape(-1).tolist(), frame(12), "a frame at opening")
-    equal(fabio.openheader(str(path)).header["X-Binary-Size-Fastest-Dimension"], str(COLUMNS), "openheader")
+    only_header = fabio.openheader(str(path))
+    fastest = only_header.header["X-Binary-Size-Fastest-Dimension"]
+    equal((fastest, only_header.shape), (str(COLUMNS), (ROWS, COLUMNS)), "openheader")
     return path
 
 

@@ -8,7 +8,7 @@ import re
 
 from support import ROOT, equal, folder, say
 
-from files import COLUMNS, ROWS, forty
+from files import COLUMNS, ROWS, forty, frame, packed
 from mooringelm._pixels import numpy_or_none
 
 
@@ -18,7 +18,6 @@ def run():
     if numpy_or_none() is None:
         # The comparison of an array with a number is numpy's.
         code = code[: code.index("with mooringelm.edit")]
-        say("README: the snippet's edit is skipped, numpy is not installed")
     with folder() as place:
         path = place / "frames.cbf"
         path.write_bytes(forty())
@@ -31,9 +30,10 @@ def run():
         finally:
             os.chdir(before)
         lines = printed.getvalue().splitlines()
-        size = next(line.split(" ")[2] for line in names["f"].__class__(forty()).listing().splitlines()[6:])
+        size = len(packed(frame(7)))
         described = f"frame_7 {(ROWS, COLUMNS)} int32 {size} {ROWS * COLUMNS} BINARY byte_offset 7"
         equal(lines, ["40 sections", described], "what the snippet prints")
         equal(names["new"], forty(), "the replaced file")
-        equal(path.read_bytes(), forty({7} if "edit" in code else ()), "the edited file")
-    say("README: the snippet was run")
+        edited = "edit" in code
+        equal(path.read_bytes(), forty({7} if edited else ()), "the edited file")
+    say("README: the snippet was run" + ("" if edited else "; its edit is skipped, numpy is not installed"))

@@ -171,8 +171,10 @@ def compare_sections(file, catalogue):
             dimensions = [size for size in reversed(words[4:]) if size]
             found = (section.position, section.size, section.elements, section.id or 0, list(section.dimensions))
             equal(found, (*words[:4], dimensions), "section", section.number)
-            names = (("none", "byte_offset")[record[12]], list(RANGES)[record[13] - 1], ("BINARY", "BASE64")[record[14]])
-            equal((section.compression, section.type, section.encoding), names, "section", section.number)
+            compression, encoding = ("none", "byte_offset")[record[12]], ("BINARY", "BASE64")[record[14]]
+            kind = list(RANGES)[record[13] - 1]
+            found = (section.compression, section.type, section.encoding)
+            equal(found, (compression, kind, encoding), "section", section.number)
             equal(section.block.encode().ljust(32, b"\0"), record[32:], "name of section", section.number)
             span = file[slice(*section.span)]
             check(span.startswith(BOUNDARY) and span.endswith(BOUNDARY + b"--"), "span of section", section.number)
@@ -181,10 +183,10 @@ def compare_sections(file, catalogue):
 def run():
     expected = (ROOT / "bench" / "vectors" / "transcript.txt").read_text().splitlines()
     files = cases()
-    at = 0
+    lines = []
     for index, file in enumerate(files, 1):
-        for line in [f"case {index} length {len(file)}", *Case(file).all_lines()]:
-            equal(line, expected[at] if at < len(expected) else None, "case", index, "line", at + 1, "of the transcript")
-            at += 1
-    equal(at, len(expected), "lines")
-    say(f"{at} lines of the transcript of {len(files)} files")
+        lines += [f"case {index} length {len(file)}", *Case(file).all_lines()]
+    for number, (line, wanted) in enumerate(zip(lines, expected), 1):
+        equal(line, wanted, "line", number, "of the transcript")
+    equal(len(lines), len(expected), "lines of the transcript")
+    say(f"{len(lines)} lines of the transcript of {len(files)} files")
