@@ -15,6 +15,8 @@ from mooringelm._pixels import numpy_or_none
 NUMPY = numpy_or_none()
 FORMATS = dict(zip(RANGES, "BbHhIi"))
 DTYPES = dict(zip(RANGES, ("uint8", "int8", "uint16", "int16", "uint32", "int32")))
+# Longer than a catalogue has room for.
+BLOCK = "a_data_block_of_42_characters_of_its_own_x"
 SHAPES = ((), (24,), (4, 6), (2, 3, 4), (1, 4, 6))
 
 
@@ -22,6 +24,10 @@ def pixels_of(kind):
     """24 pixels of the whole type, its ends among them."""
     least, greatest = RANGES[kind]
     return [least, greatest, 0, 1] + [least + i * 0x9E3779B1 % (greatest - least + 1) for i in range(20)]
+
+
+def made(kind, pixels, shape):
+    return file([(BLOCK, section(kind, pixels, 3, shape))])
 
 
 def nested(pixels, shape):
@@ -33,10 +39,11 @@ def nested(pixels, shape):
 
 def out(kind, shape):
     pixels = pixels_of(kind)
-    data = file([("a", section(kind, pixels, 3, shape))])
+    data = made(kind, pixels, shape)
     s = mooringelm.open(data)[1]
     whole = shape or (24,)
-    equal((s.shape, s.dtype, s.format, s.type), (whole, DTYPES[kind], FORMATS[kind], kind), "section")
+    equal((s.block, s.id, s.shape, s.dimensions), (BLOCK, 3, whole, shape), "section")
+    equal((s.dtype, s.format, s.type, s.elements), (DTYPES[kind], FORMATS[kind], kind, 24), "section")
     frame = s.frame()
     check(isinstance(frame, mooringelm.Frame), "a frame")
     equal((frame.shape, frame.format, frame.dtype, len(frame)), (whole, FORMATS[kind], DTYPES[kind], whole[0]))
@@ -70,7 +77,7 @@ def ways_in(kind, pixels, shape):
     yield memoryview(struct.pack(f"24{letter}", *pixels)).cast(letter, shape or (24,))
     yield (ctypes.c_int64 * 24)(*pixels)
     yield (ctypes.c_int64.__ctype_be__ * 24)(*pixels)
-    yield mooringelm.unpack(file([("b", section(kind, pixels, None, shape))]), 1)
+    yield mooringelm.unpack(made(kind, pixels, shape), 1)
     if min(pixels) >= 0:
         yield (ctypes.c_uint64 * 24)(*pixels)
     if NUMPY is not None:
@@ -81,7 +88,7 @@ def ways_in(kind, pixels, shape):
 def back(kind, shape, data, pixels, frame):
     """Each way gives the file that was made without the library."""
     pixels = [pixels[-1], *pixels[:-1]]
-    expected = file([("a", section(kind, pixels, 3, shape))])
+    expected = made(kind, pixels, shape)
     ways = list(ways_in(kind, pixels, shape))
     for way in ways:
         equal(mooringelm.open(data).replaced(1, way), expected, kind, shape, type(way))

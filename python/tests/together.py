@@ -17,7 +17,7 @@ from files import forty
 
 MEL = os.path.abspath(sys.argv[1] if len(sys.argv) > 1 else ROOT / "target" / "bin" / "mel")
 BOTH = forty({7, 12})
-LEFT = 10
+LEFT = 20
 MOST_KILLS = 1000
 BUSY = 4
 
@@ -58,37 +58,31 @@ def two_at_once(path):
     say(f"mel and Python at once: {ROUNDS} rounds, 0 edits lost, one file")
 
 
-def killed_mel(path, longest):
+def writes(path, over):
+    """Waits until a temporary file is there, or all is over."""
+    while not left_behind(path) and not over():
+        pass
+
+
+def killed_mel(path):
     program = mel(path, 7)
-    time.sleep(random.uniform(0, longest))
+    writes(path, lambda: program.poll() is not None)
     program.kill()
-    return status(program)
+    status(program)
 
 
-def killed_python(path, longest):
-    told, tell = os.pipe()
-    editor = started(lambda: edit_on_and_on(path, tell))
-    os.close(tell)
-    os.read(told, 1)
-    time.sleep(random.uniform(0, longest))
+def killed_python(path):
+    editor = started(lambda: edit_on_and_on(path))
+    writes(path, lambda: False)
     killed(editor)
-    os.close(told)
-
-
-def duration(edit, path):
-    path.write_bytes(OLD)
-    start = time.monotonic()
-    edit()
-    return time.monotonic() - start
 
 
 def cleans_up(name, kill, other, path):
-    """Kills one until it has left temporary files behind; the other's next edit removes each of them."""
-    longest = 1.5 * max(duration(lambda: status(mel(path, 7)), path), duration(lambda: mask_on_disk(path, 7), path))
+    """Kills one while it writes, until it has left temporary files behind; the other's next edit removes each."""
     left = kills = 0
     while left < LEFT and kills < MOST_KILLS:
         path.write_bytes(OLD)
-        kill(path, longest)
+        kill(path)
         kills += 1
         check(path.read_bytes() in (OLD, NEW), "a kill left a file that is neither old nor new")
         if left_behind(path):

@@ -99,6 +99,7 @@ class Case:
         try:
             lines = mooringelm.listing(self.file).splitlines()
             self.sections = [(line.split(" ")[5], int(line.split(" ")[3])) for line in lines]
+            equal([listed(section) for section in mooringelm.open(self.file)], lines, "sections as they are listed")
         except mooringelm.Refused as refusal:
             lines = [f"refused {refusal.number} at {refusal.place}"]
         self.lines += lines
@@ -159,6 +160,11 @@ class Case:
                 if i != j:
                     self.order(i, j)
         return self.lines
+
+
+def listed(section):
+    words = (section.number, section.position, section.size, section.elements, section.compression, section.type)
+    return " ".join(map(str, [*words, section.block] if section.block else words))
 
 
 def compare_sections(file, catalogue):
