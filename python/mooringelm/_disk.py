@@ -14,7 +14,7 @@ import stat
 import time
 from typing import Callable, List, Optional, Tuple
 
-from ._file import contents
+from ._file import read_whole, state
 from ._refusals import Busy
 
 _LONGEST_NAME = 233
@@ -22,16 +22,13 @@ _ATTRIBUTES = ("user.", "system.posix_acl_access")
 _FIRST_PAUSE, _LONGEST_PAUSE = 0.001, 0.02
 
 
-def _same(one: os.stat_result, other: os.stat_result) -> bool:
-    return (one.st_dev, one.st_ino) == (other.st_dev, other.st_ino)
-
-
 def _leads_to(name: str, file: int, look: Callable[[str], os.stat_result]) -> bool:
     """Whether the name leads to the open file."""
     try:
-        return _same(look(name), os.fstat(file))
+        named, opened = look(name), os.fstat(file)
     except FileNotFoundError:
         return False
+    return (named.st_dev, named.st_ino) == (opened.st_dev, opened.st_ino)
 
 
 def _locked(file: int) -> bool:
@@ -71,7 +68,7 @@ class Held:
 
     def read(self) -> bytes:
         with io.FileIO(self._file, "rb", closefd=False) as file:
-            return contents(file, self._seen.st_size, self.path)
+            return read_whole(file, self.path)
 
     def exchange(self, data: bytes) -> None:
         """The file has these bytes now, or is as it was where that fails."""
@@ -106,11 +103,9 @@ class Held:
 
     def _look_again(self) -> None:
         """9. A program that takes no lock may have written or replaced the file."""
-        old, new = self._seen, os.stat(self.target)
-        if not _same(old, new) or (old.st_size, old.st_mtime_ns) != (new.st_size, new.st_mtime_ns):
-            raise OSError(
-                errno.ESTALE, "changed during the edit by a program that takes no lock; nothing was written", self.path
-            )
+        if state(self._seen) != state(os.stat(self.target)):
+            text = "changed during the edit by a program that takes no lock; nothing was written"
+            raise OSError(errno.ESTALE, text, self.path)
 
     def _sync_folder(self, folder: str) -> None:
         """11. Some systems do not do that on a folder."""

@@ -3,9 +3,11 @@
 
 from __future__ import annotations
 
+import errno
 import io
 import os
-from typing import Any, BinaryIO, Iterator, List, Optional, Tuple, Union
+import stat
+from typing import Any, Iterator, List, Optional, Tuple, Union
 
 from . import _sections
 from ._library import FILE_LIMIT
@@ -89,11 +91,25 @@ class File(Sections):
         self.close()
 
     def __repr__(self) -> str:
-        state = "closed" if self._data is None else f"{self._count} sections"
-        return f"<mooringelm.File {self.path or 'of bytes'}, {state}>"
+        now = "closed" if self._data is None else f"{self._count} sections"
+        return f"<mooringelm.File {self.path or 'of bytes'}, {now}>"
 
 
-def contents(file: BinaryIO, length: int, path: Optional[str]) -> bytes:
+def state(of: os.stat_result) -> Tuple[int, int, int, int]:
+    """What tells that a file is as it was: device, inode, size, and time of change."""
+    return of.st_dev, of.st_ino, of.st_size, of.st_mtime_ns
+
+
+def read_whole(file: io.FileIO, path: str) -> bytes:
+    """All of an open file. One that changes meanwhile is no answer."""
+    before = os.fstat(file.fileno())
+    data = _contents(file, before.st_size, path)
+    if stat.S_ISREG(before.st_mode) and state(before) != state(os.fstat(file.fileno())):
+        raise OSError(errno.ESTALE, "changed while it was read, by a program that writes straight over it", path)
+    return data
+
+
+def _contents(file: Any, length: int, path: Optional[str]) -> bytes:
     """All of a file that is probably so long; refusal 4 for one that is too long, which is not read whole."""
     if length > FILE_LIMIT:
         raise Refused(4, path=path)
@@ -114,11 +130,11 @@ def _source(source: Any) -> Tuple[bytes, Optional[str]]:
     if isinstance(source, (str, os.PathLike)):
         path = os.fsdecode(source)
         with io.FileIO(path, "rb") as file:
-            return contents(file, os.fstat(file.fileno()).st_size, path), path
+            return read_whole(file, path), path
     if hasattr(source, "read"):
         name = getattr(source, "name", None)
         path_or_none = name if isinstance(name, str) else None
-        return contents(source, 0, path_or_none), path_or_none
+        return _contents(source, 0, path_or_none), path_or_none
     return unchanging(source), None
 
 

@@ -2,6 +2,7 @@
 """The header and the module say the same, and every exception is raised once."""
 
 import ast
+import errno
 import io
 import os
 import pickle
@@ -13,7 +14,7 @@ from support import ROOT, check, equal, folder, raised, say
 
 import mooringelm
 from files import file, frame, section
-from mooringelm import _library
+from mooringelm import _file, _library
 from vectors import cases
 
 HEADER = (ROOT / "include" / "mooringelm.h").read_text()
@@ -94,10 +95,28 @@ def what_a_refusal_has():
         os.truncate(path, _library.FILE_LIMIT + 1)
         error = raised(mooringelm.Refused, lambda: mooringelm.open(str(path)), "a file that is too long")
         equal((error.number, error.place), (4, 0))
+        changed_meanwhile(path)
         raised(FileNotFoundError, lambda: mooringelm.open(place / "none.cbf"), "no file")
         raised(IsADirectoryError, lambda: mooringelm.open(place), "a folder")
     raised(TypeError, lambda: mooringelm.open(7), "a number for a file")
     raised(TypeError, lambda: mooringelm.open(io.StringIO("###CBF: VERSION 1.5")), "text for a file")
+
+
+def changed_meanwhile(path):
+    path.write_bytes(file([("a", section("s32", frame(1)))]))
+    contents = _file._contents
+
+    def slow(*words):
+        data = contents(*words)
+        with path.open("ab") as writer:
+            writer.write(b"#")
+        return data
+
+    _file._contents = slow
+    try:
+        equal(raised(OSError, lambda: mooringelm.open(path), "a file that changes").errno, errno.ESTALE)
+    finally:
+        _file._contents = contents
 
 
 def of_opening():
