@@ -44,6 +44,10 @@ class Sections:
         for number in range(1, len(self) + 1):
             yield self[number]
 
+    def __reversed__(self) -> Iterator[Section]:
+        for number in range(len(self), 0, -1):
+            yield self[number]
+
     def listing(self) -> str:
         """A line for each section: number, position, size, elements, compression, type and data block."""
         return _sections.listed(self.data, self.path)

@@ -1,6 +1,7 @@
 # SPDX-License-Identifier: Apache-2.0
 """Edits on disk: two Pythons at once, kills, a file-size limit, a reader meanwhile, and what each step looks at."""
 
+import concurrent.futures
 import errno
 import fcntl
 import os
@@ -211,6 +212,15 @@ def renamed_before_the_lock(path):
     equal(path.read_bytes(), forty({7, 12}), "the other editor's frame and ours")
 
 
+def threads(path):
+    """Edits of one process at the same time."""
+    path.write_bytes(OLD)
+    numbers = range(7, 13)
+    with concurrent.futures.ThreadPoolExecutor(len(numbers)) as pool:
+        list(pool.map(lambda number: mask_on_disk(path, number), numbers))
+    equal(path.read_bytes(), forty(numbers), "edits of six threads")
+
+
 def kept(path):
     """Mode, owner and attributes of the file; links stay links."""
     path.write_bytes(OLD)
@@ -284,7 +294,7 @@ def temporary_files(path):
         equal((left[1].exists(), file.read_bytes()), (False, forty({7, 12})), file.name)
 
 
-STEPS = (nothing_written, held, renamed_before_the_lock, kept, refused_by_the_system, temporary_files)
+STEPS = (nothing_written, held, renamed_before_the_lock, threads, kept, refused_by_the_system, temporary_files)
 
 
 def run():
@@ -294,4 +304,4 @@ def run():
     for test in STEPS:
         with folder() as place:
             test(place / "frames.cbf")
-    say(f"{len(STEPS)} tests of the single steps: nothing written, held, renamed, kept, refused, temporary files")
+    say(f"{len(STEPS)} tests of single steps: " + ", ".join(test.__name__.replace("_", " ") for test in STEPS))

@@ -57,6 +57,7 @@ def of_files():
 def of_calls():
     data = file([("a", section("u8", [5, 200], 1)), ("b" * 33, section("s16", [7]))])
     with mooringelm.open(data) as f:
+        equal([[s.number for s in order] for order in (f, reversed(f))], [[1, 2], [2, 1]], "iteration")
         for number in (0, 3, -1, 1 << 64, (1 << 64) + 1):
             error = raised(IndexError, lambda: f[number], "section", number)
             equal((type(error), error.number, error.place, error.section), (mooringelm.NoSection, 12, 0, number))
