@@ -45,8 +45,7 @@ def narrowed(memory: Any, count: int, kind: ElementType) -> Any:
     numpy = numpy_or_none()
     if numpy is not None:
         return numpy.frombuffer(memory, "int64", count).astype(kind.dtype)
-    with memoryview(memory) as view:
-        return bytearray(view[: 8 * count].cast(kind.format)[:: 8 // kind.width])
+    return bytearray(memoryview(memory)[: 8 * count].cast(kind.format)[:: 8 // kind.width])
 
 
 def widened(frame: Any) -> Pixels:
@@ -57,11 +56,10 @@ def widened(frame: Any) -> Pixels:
         view = memoryview(frame)
     except (TypeError, ValueError):
         return _of_sequence(frame)
-    with view:
-        _test(view)
-        numpy = numpy_or_none()
-        memory = _by_octets(view) if numpy is None else _by_numpy(numpy, view)
-        return Pixels(memory, view.nbytes // view.itemsize, view.shape or ())
+    _test(view)
+    numpy = numpy_or_none()
+    memory = _by_octets(view) if numpy is None else _by_numpy(numpy, view)
+    return Pixels(memory, view.nbytes // view.itemsize, view.shape or ())
 
 
 def _test(view: memoryview) -> None:
