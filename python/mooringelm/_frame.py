@@ -13,7 +13,8 @@ from ._types import ElementType
 class Frame:
     """Pixels of one type and shape, slowest dimension first. `memoryview(frame)` and `numpy.asarray(frame)` look at the
     same memory, without a copy. `frame[i]` is a pixel or, where there are more dimensions, the i-th part as a frame of
-    one dimension less (in the same memory too); `frame[i, j]` is a pixel of a frame of two."""
+    one dimension less (in the same memory too); `frame[i, j]` is a pixel of a frame of two. (A memoryview has the byte
+    order in its format, such as `<i`; Python reads no items through such a view, but numpy and the frame itself do.)"""
 
     shape: Tuple[int, ...]
     format: str
