@@ -1,3 +1,4 @@
+// SPDX-License-Identifier: Apache-2.0
 // The calls on a file: its sections with their octets and pixels, its listing and its catalogue, a frame replaced;
 // and packing. No call has a `requires`; the types that their contracts name are handed on with them.
 pub use cbf_answers::Answer;

@@ -1,3 +1,4 @@
+// SPDX-License-Identifier: Apache-2.0
 // What every call speaks of: answers, refusals, and document 01's limits. No function here has a `requires`.
 ghost use mathlib.Core.Path.{_≡_};
 ghost use Rattle.cbf_answers.specs.Answers.{refuses, outcome};

@@ -1,3 +1,4 @@
+// SPDX-License-Identifier: Apache-2.0
 // The catalogue of a file. What is catalogued is defined in cbf_format.
 mod entries;
 mod entry;

@@ -1,3 +1,4 @@
+// SPDX-License-Identifier: Apache-2.0
 // The file format: document 01's rules as definitions (specs/), their laws (proofs/), and the types that contracts
 // speak of.
 

@@ -1,3 +1,4 @@
+// SPDX-License-Identifier: Apache-2.0
 // The headers of a section: their lines, and what they say together.
 mod describe;
 mod found;

@@ -1,3 +1,4 @@
+// SPDX-License-Identifier: Apache-2.0
 // Reads a file from standard input and prints its listing, or the line of its refusal.
 use cbf::Answer;
 use cbf::LINE_LIMIT;

@@ -1,3 +1,4 @@
+// SPDX-License-Identifier: Apache-2.0
 // The listing of a file. What is listed is defined in cbf_format.
 mod lines;
 mod listing;

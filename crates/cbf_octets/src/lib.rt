@@ -1,3 +1,4 @@
+// SPDX-License-Identifier: Apache-2.0
 // Octets as numbers: little-endian numbers, one difference of the byte-offset rule, and runs of octets that are no
 // escapes.
 pub mod difference;

@@ -1,3 +1,4 @@
+// SPDX-License-Identifier: Apache-2.0
 // Demand 3: the frames of two sections replaced, in either order, as one statement about the four calls. What is
 // demanded is in specs/.
 use cbf_answers::Answer;

@@ -1,3 +1,4 @@
+// SPDX-License-Identifier: Apache-2.0
 // The pixels of a binary section: what octets of either compression stand for, and what packing and unpacking answer,
 // as definitions (specs/) and laws (proofs/), and the types that contracts speak of. The code is in cbf_unpack and
 // cbf_pack.

@@ -1,3 +1,4 @@
+// SPDX-License-Identifier: Apache-2.0
 // The values of the known headers, each read where it lies.
 mod content_type;
 pub mod header;

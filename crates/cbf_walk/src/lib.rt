@@ -1,1 +1,2 @@
+// SPDX-License-Identifier: Apache-2.0
 // Definitions and laws only: specs/ and proofs/. No function.
