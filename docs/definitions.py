@@ -6,6 +6,7 @@ From each public contract every name is followed through the definitions (specs/
 (src/*.rt) until only libraries of the toolchain are left. It fails, a line for each reason, where
   - a name that is reached is not in the list, or a listed one is not reached;
   - a public function has a `requires`, or no `ensures`;
+  - a row of the table from demands to names has a name that none of the row's files has;
   - a word is met whose meaning it does not know.
 
     python3 docs/definitions.py            the check
@@ -16,6 +17,7 @@ Run it from the top of the repository.
 """
 import re
 import sys
+import textwrap
 from pathlib import Path
 
 CRATES = Path("crates")
@@ -48,7 +50,8 @@ def without_comments(text, mark):
 
 
 def tokens(text):
-    return re.findall(r'"(?:\\.|[^"\\])*"|[(){},;]|[^\s(){},;"]+', text)
+    """Words, strings and brackets; a name of the code that stands in guillemets is the name."""
+    return re.findall(r'"(?:\\.|[^"\\])*"|[(){},;]|[^\s(){},;"]+', text.replace("«", "").replace("»", ""))
 
 
 def blocks(text):
@@ -427,8 +430,7 @@ class Follower:
         for kind, text in clauses:
             if kind == "requires":
                 fault(user, "has a requires")
-            words = [word.strip("«»") for word in tokens(text)]
-            self.mention(file, free(words, parameters), user)
+            self.mention(file, free(tokens(text), parameters), user)
 
     def follow(self):
         while self.waiting:
@@ -441,7 +443,7 @@ class Follower:
                 self.follow_type(file, name, f"{file.path}: {name}")
 
     def check_fields(self):
-        """Each field that is asked for belongs to a type that is reached, so that nothing is reached by a field alone."""
+        """Each field that is asked for belongs to a type that is reached: nothing is reached by a field alone."""
         known = set(FIELDS)
         for file in self.specs.values():
             for record, fields in file.fields.items():
@@ -480,18 +482,17 @@ def grouped(names):
     return sorted(files.items(), key=lambda item: (order.index(item[0].parts[1]), item[0].parts[2], item[0].name))
 
 
-def table(names, head):
-    rows = [f"| {head} | names |", "|---|---|"]
-    for path, own in names:
-        rows.append(f"| `{path}` | {', '.join(f'`{name}`' for name in sorted(own, key=str.lower))} |")
-    return "\n".join(rows)
-
-
 def written(reached):
-    rows = grouped(reached)
-    code = [row for row in rows if row[0].suffix == ".rt"]
-    return (table(code, "contracts and declared types") + "\n\n"
-            + table([row for row in rows if row not in code], "definitions"))
+    """The list as it stands in the document: the files of code, then those of definitions."""
+    texts = []
+    for head, suffix in (("Contracts and declared types:", ".rt"), ("Definitions:", ".antt")):
+        texts.append(head + "\n")
+        for path, names in grouped(reached):
+            if path.suffix == suffix:
+                line = f"- `{path}`: " + ", ".join(f"`{name}`" for name in sorted(names, key=lambda n: (n.lower(), n)))
+                texts.append(textwrap.fill(line, 110, subsequent_indent="  ", break_on_hyphens=False))
+        texts.append("")
+    return "\n".join(texts)
 
 
 def listed():
@@ -500,10 +501,8 @@ def listed():
         fault(LIST, f"the list does not stand once between {BEGIN} and {END}")
         return set()
     names = set()
-    for row in text.split(BEGIN)[1].split(END)[0].splitlines():
-        cells = re.fullmatch(r"\| `([^`]+)` \| (.*) \|", row)
-        if cells:
-            names |= {(Path(cells[1]), name) for name in re.findall(r"`([^`]+)`", cells[2])}
+    for entry in re.findall(r"(?m)^- `([^`]+)`:((?:.|\n(?=  ))*)$", text.split(BEGIN)[1].split(END)[0]):
+        names |= {(Path(entry[0]), name) for name in re.findall(r"`([^`]+)`", entry[1])}
     return names
 
 
@@ -514,6 +513,15 @@ def compare(reached):
         fault(LIST, f"does not list {', '.join(sorted(names))} of {path}{whole}")
     for path, name in sorted(there - reached):
         fault(LIST, f"lists {name} of {path}, which no public contract reaches")
+
+
+def check_table():
+    for row in re.findall(r"(?m)^\| (.*`crates/.*) \|$", LIST.read_text()):
+        demand, files, names = row.rsplit(" | ", 2)
+        text = "\n".join(Path(path).read_text() for path in re.findall(r"`([^`]+)`", files) if Path(path).exists())
+        for name in re.findall(r"`([^`]+)`", names):
+            if not re.search(rf"(?<![\w-]){re.escape(name)}(?![\w-])", text):
+                fault(LIST, f"the row '{demand}': no {name} in {files}")
 
 
 def main(arguments):
@@ -529,6 +537,7 @@ def main(arguments):
                 print(f"{path}: {name} is used by", *sorted(users), sep="\n    ")
     else:
         compare(follower.reached)
+        check_table()
     for line in faults:
         print(line, file=sys.stderr)
     if not arguments and not faults:
