@@ -6,7 +6,7 @@ From each public contract every name is followed through the definitions (specs/
 (src/*.rt) until only libraries of the toolchain are left. It fails, a line for each reason, where
   - a name that is reached is not in the list, or a listed one is not reached;
   - a public function has a `requires`, or no `ensures`;
-  - a row of the table from demands to names has a name that none of the row's files has;
+  - a row of the table from demands to names, or docs/FORMAT.md, has a name that is not in the file it gives;
   - a word is met whose meaning it does not know.
 
     python3 docs/definitions.py            the check
@@ -21,7 +21,7 @@ import textwrap
 from pathlib import Path
 
 CRATES = Path("crates")
-LIST = Path("docs/PROVED.md")
+LIST, FORMAT = Path("docs/PROVED.md"), Path("docs/FORMAT.md")
 BEGIN, END = "<!-- definitions.py: list -->", "<!-- definitions.py: end -->"
 
 # The toolchain's libraries: names that come from them are not followed.
@@ -524,6 +524,18 @@ def check_table():
                 fault(LIST, f"the row '{demand}': no {name} in {files}")
 
 
+def check_format():
+    """The names in brackets in docs/FORMAT.md: `File: name`, and further names of that file."""
+    text = FORMAT.read_text()
+    for part in re.findall(r"\(([^()]*`(?:pixels/)?[A-Z]\w+: [^()]*)\)", text):
+        path = None
+        for pixels, file, name in re.findall(r"`(?:(pixels/)?([A-Z]\w+): )?([^`]+)`", part):
+            if file:
+                path = CRATES / ("cbf_pixels" if pixels else "cbf_format") / "specs" / f"{file}.antt"
+            if path and (not path.exists() or name not in Specs(path).owner):
+                fault(FORMAT, f"no {name} in {path}")
+
+
 def main(arguments):
     follower = Follower()
     public(follower)
@@ -538,6 +550,7 @@ def main(arguments):
     else:
         compare(follower.reached)
         check_table()
+        check_format()
     for line in faults:
         print(line, file=sys.stderr)
     if not arguments and not faults:
