@@ -129,17 +129,17 @@ class Definition:
 class Specs:
     """A file of definitions: what it imports, its definitions, and the definition that each name of it belongs to."""
 
-    def __init__(self, path):
+    def __init__(self, path, text=None, outer=None):
         self.path = path
-        self.imports, self.modules = {}, {}
+        self.imports, self.modules = (outer.imports, outer.modules) if outer else ({}, {})
         self.definitions, self.owner, self.constructors, self.fields = {}, {}, set(), {}
-        self.read(without_comments(path.read_text(), "--"), [], set())
+        self.read(without_comments(path.read_text(), "--") if text is None else text, [], set())
 
     def read(self, text, types, bound):
         for block in blocks(text):
             words = tokens(block)
             if words[0] == "use":
-                self.use(block)
+                add_use(self, block[4:])
             elif words[:2] == ["module", "_"]:
                 head, body = self.where(block)
                 self.read(body, types + [tokens(head)[2:]], bound | declared_in(tokens(head)[2:]))
@@ -151,15 +151,6 @@ class Specs:
     def where(self, block):
         parts = re.split(r"\swhere\s*\n", block, maxsplit=1)
         return (parts[0], parts[1]) if len(parts) == 2 else (re.sub(r"\swhere\s*$", "", block), "")
-
-    def use(self, block):
-        path, names, alias = parse_use(block[4:])
-        if alias:
-            self.modules[alias] = path
-        for name, shown in names:
-            self.imports[shown] = (path, name)
-            if shown.startswith("_") and shown.endswith("_") and len(shown) > 2:
-                self.imports[shown[1:-1]] = (path, name)
 
     def define(self, block, types, bound):
         words = tokens(block)
@@ -209,12 +200,7 @@ class Specs:
             fault(self.path, f"not understood: {head.strip().splitlines()[0]}")
             return
         middle = words.index("=")
-        local = None
-        if body:
-            local = Specs.__new__(Specs)
-            local.path, local.imports, local.modules = self.path, self.imports, self.modules
-            local.definitions, local.owner, local.constructors, local.fields = {}, {}, self.constructors, {}
-            local.read(body, [], set())
+        local = Specs(self.path, body, self) if body else None
         self.definitions[name].clauses.append((words[1:middle], words[middle + 1:], local))
 
 
@@ -223,17 +209,22 @@ def declared_in(words):
     return {name for at, word in enumerate(words) if word in "({" for name in binder(words, at + 1)}
 
 
-def parse_use(text):
-    """The path of a `use`, the names (each with the name that it has here), and the name of the whole."""
-    text = " ".join(text.split()).rstrip(";")
+def add_use(file, text):
+    """Adds what a `use` names, each with the name that it has here, to a file's imports and modules."""
+    text = " ".join(text.split())
     listed = re.fullmatch(r"(\S+)\.\{(.*)\}", text)
-    if listed:
-        names = [part.split(" as ") for part in listed[2].split(", ")]
-        return listed[1], [(part[0], part[-1]) for part in names], None
     whole = re.fullmatch(r"(\S+) as (\S+)", text)
-    if whole:
-        return whole[1], [], whole[2]
-    raise ValueError(f"not understood: use {text}")
+    if whole and not listed:
+        file.modules[whole[2]] = whole[1]
+    elif not listed:
+        fault(file.path, f"not understood: use {text}")
+    for part in listed[2].split(", ") if listed else []:
+        name, _, other = part.partition(" as ")
+        shown = other or name
+        file.imports[shown] = (listed[1], name)
+        # An operator such as _++_ stands between its operands.
+        if re.fullmatch(r"_.+_", shown):
+            file.imports[shown[1:-1]] = (listed[1], name)
 
 
 # ---- types and contracts in Rattle
@@ -250,7 +241,7 @@ class Source:
         self.handed_on = re.findall(r"(?m)^pub use ([\w:]+);", self.text)
         self.imports, self.modules = {}, {}
         for item in re.findall(r"(?ms)^ghost use (.*?);", self.text):
-            Specs.use(self, "use " + item)
+            add_use(self, item)
         self.types = {}
         for kind, name in re.findall(r"(?m)^pub (struct|enum|const) (\w+)", self.text):
             self.types[name] = self.body(kind, name)
