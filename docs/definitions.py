@@ -337,9 +337,9 @@ class Follower:
             raise ValueError(f"no {name} in {path}")
         return file, kind, variants
 
-    def resolve(self, file, word, local=()):
+    def resolve(self, file, word):
         """What a word means in a file: 'word' for what the language has, None for a library's, or a target."""
-        if word in WORDS or word in local or NUMBER.fullmatch(word) or word.startswith('"'):
+        if word in WORDS or NUMBER.fullmatch(word) or word.startswith('"'):
             return "word"
         if word.startswith(".") and len(word) > 1:
             self.projections.add((file.path, word[1:]))
@@ -355,10 +355,10 @@ class Follower:
             return *self.item(file, file.uses[word]), False
         raise ValueError(f"the word {word} is not understood")
 
-    def mention(self, file, words, user, local=()):
+    def mention(self, file, words, user):
         for word in words:
             try:
-                target = self.resolve(file, word, local)
+                target = self.resolve(file, word)
             except ValueError as problem:
                 fault(user, problem)
                 continue
@@ -371,8 +371,10 @@ class Follower:
         for word in words:
             try:
                 target = self.resolve(file, word)
-            except ValueError:
+            except ValueError as problem:
                 target = (None, None, False)
+                if "." in word or word in file.imports:
+                    fault(user, problem)
             if target in ("word", None):
                 continue
             if target[2]:
@@ -394,11 +396,11 @@ class Follower:
 
     def follow_type(self, file, name, user):
         kind, text = file.types[name]
-        fields = set(re.findall(r"(\w+)\s*:(?!:)", text))
-        variants = set(re.findall(r"[{,]\s*(\w+)\s*(?=[,(}])", text)) if kind == "enum" else set()
-        for word in re.findall(r"[A-Za-z]\w*", text):
-            if word in MACHINE | fields | variants | {"pub"}:
-                continue
+        if kind == "enum":
+            if "{" in text[1:]:
+                fault(user, "a variant with fields is not understood")
+            text = " ".join(re.findall(r"\(([^()]*)\)", text))
+        for word in re.findall(r"[A-Za-z]\w*", re.sub(r"(pub )?\w+\s*:(?!:)", " ", text)):
             self.mention_type(file, word, user)
 
     def mention_type(self, file, word, user):
@@ -448,6 +450,17 @@ class Follower:
                 fault(path, f"the field {field} is of no type that is reached")
 
 
+def check_exported():
+    """Functions are exported by cbf_capi alone, in the form that is looked for, and cbf has nothing but `pub use`."""
+    for path in sorted(CRATES.glob("*/src/*.rt")):
+        text = without_comments(path.read_text(), "//")
+        plain = len(re.findall(r'(?m)^#\[no_mangle\]\npub extern "C" fn ', text)) if path.parts[1] == "cbf_capi" else 0
+        if (text.count("no_mangle"), text.count('extern "C"')) != (plain, plain):
+            fault(path, "a function is exported where or how it is not understood")
+        if path.parts[1] == "cbf" and re.sub(r"(?m)^pub use [\w:]+;$", "", text).strip():
+            fault(path, "has something other than `pub use` of one name")
+
+
 def public(follower):
     """The public functions: what cbf hands on, the two orders, the functions for C, and what the program promises."""
     handed = follower.source("cbf", None)
@@ -457,8 +470,8 @@ def public(follower):
         for path in sorted((CRATES / crate / "src").glob("*.rt")):
             file = follower.source(crate, None if path.stem in ("lib", "main") else path.stem)
             for name, (exported, _) in file.functions.items():
-                promises = any(kind == "ensures" for kind, _ in file.contract(name)[2])
-                if exported if crate == "cbf_capi" else crate == "cbf_orders" or promises:
+                wanted = {"cbf_orders": True, "cbf_capi": exported, "cbf_list": file.contract(name)[2]}
+                if wanted[crate]:
                     follower.reach(file, name, f"{path}: public")
 
 
@@ -529,9 +542,13 @@ def check_format():
 
 def main(arguments):
     follower = Follower()
-    public(follower)
-    follower.follow()
-    follower.check_fields()
+    try:
+        check_exported()
+        public(follower)
+        follower.follow()
+        follower.check_fields()
+    except (ValueError, IndexError, OSError) as problem:
+        fault("definitions.py", f"stopped: {problem}")
     if arguments[:1] == ["--write"]:
         print(written(follower.reached))
     elif arguments[:1] == ["--from"]:
