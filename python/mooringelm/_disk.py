@@ -89,16 +89,17 @@ class Held:
             _unlock(file)
 
     def _write(self, file: int, data: bytes) -> None:
-        """8. The new file's bytes, and what else the old one has."""
-        with io.FileIO(file, "wb", closefd=False) as out:
-            rest = memoryview(data)
-            while rest:
-                rest = rest[out.write(rest) :]
+        """8. What else the old file has, so that whoever may edit it may open what a kill leaves behind; then the new
+        file's bytes."""
         old = self._seen
         if not _passed_over(lambda: os.fchown(file, old.st_uid, old.st_gid)):
             _passed_over(lambda: os.fchown(file, -1, old.st_gid))
         _passed_over(lambda: os.fchmod(file, stat.S_IMODE(old.st_mode)))
         _copy_attributes(self._file, file)
+        with io.FileIO(file, "wb", closefd=False) as out:
+            rest = memoryview(data)
+            while rest:
+                rest = rest[out.write(rest) :]
         os.fsync(file)
 
     def _look_again(self) -> None:
