@@ -1,0 +1,192 @@
+//! mel explain
+
+use crate::args::Args;
+use crate::output;
+use crate::trouble::{shown, Trouble};
+use mooringelm::refusal_text;
+
+/// What is known of a refusal beside its sentence: the place that it names, what usually causes it, what to do.
+struct Refusal {
+    number: u32,
+    place: &'static str,
+    cause: &'static str,
+    remedy: &'static str,
+}
+
+const fn refusal(
+    number: u32,
+    place: &'static str,
+    cause: &'static str,
+    remedy: &'static str,
+) -> Refusal {
+    Refusal {
+        number,
+        place,
+        cause,
+        remedy,
+    }
+}
+
+const REFUSALS: [Refusal; 18] = [
+    refusal(
+        1,
+        "0",
+        "The file is of another format, is packed (gzip, bzip2), or is empty after a copy that failed.",
+        "Look at its first line, which starts with ###CBF: VERSION and a number such as 1.5. Unpack it first, or copy it again.",
+    ),
+    refusal(
+        2,
+        "the 81st character of the line",
+        "A program wrote a text line of more than 80 characters, which newer editions of CIF allow.",
+        "Break the line at that place, in the program that writes it if you can.",
+    ),
+    refusal(
+        3,
+        "that byte",
+        "An accented letter or another byte outside printable ASCII stands in a comment or a header, the file was changed on \
+         its way (as text, by mail or FTP), or its sections have no MIME headers.",
+        "Look at the byte at that place. Copy the file again as binary, or have it written with MIME headers.",
+    ),
+    refusal(
+        4,
+        "0 for a file that is too long; the opening boundary of the 513th section",
+        "The file has more than 1,073,741,824 bytes or more than 512 sections.",
+        "Have the frames written to several files.",
+    ),
+    refusal(
+        5,
+        "the start of that line",
+        "A line among the headers of a section has no name with a colon, or the empty line after the headers is missing.",
+        "Look at that line. A name has letters, digits and hyphens alone, and the colon stands right after it.",
+    ),
+    refusal(
+        6,
+        "the header's line; where one is missing, the empty line after the headers",
+        "The section uses what this library does not read (real numbers, another compression than byte offset, another encoding \
+         than BINARY and BASE64, big-endian pixels), or a header that is needed (encoding, size, number of elements) is missing.",
+        "Look at that header. Have the frame written as integers, uncompressed or with x-CBF_BYTE_OFFSET.",
+    ),
+    refusal(
+        7,
+        "the empty line after the headers",
+        "The program that wrote the section counted wrongly: the dimensions give another product than the number of elements, a \
+         slower dimension stands without a faster one, or the size does not go with the elements.",
+        "Correct the header that is wrong; where you cannot tell which, have the frame written again.",
+    ),
+    refusal(
+        8,
+        "the byte after the empty line",
+        "The four bytes 0C 1A 04 D5 do not follow the headers: the file was changed on its way as text, or is cut there.",
+        "Copy the file again as binary.",
+    ),
+    refusal(
+        9,
+        "the byte after the declared octets, or the file's length where they run past it; BASE64: the closing line",
+        "The file is cut, its X-Binary-Size is wrong, its line ends were changed on the way, or padding stands between the octets \
+         and the closing boundary (X-Binary-Size-Padding), which is not read yet.",
+        "Compare the file's length with the original's and copy it again as binary. Have it written without padding.",
+    ),
+    refusal(
+        10,
+        "that byte; where the text as a whole is wrong, the closing line",
+        "The BASE64 text holds a byte that is no letter of it, is cut, has = in the middle, or gives another number of octets \
+         than X-Binary-Size says.",
+        "Copy the file again; a mail program may have changed it.",
+    ),
+    refusal(
+        11,
+        "the semicolon that opens the field",
+        "The file is cut, or a text field is opened by a semicolon at the start of a line and never closed.",
+        "Compare its length with the original's and copy it again, or close the field with a line that starts with a semicolon.",
+    ),
+    refusal(
+        12,
+        "0",
+        "The section number is 0, or above the number of sections in the file.",
+        "mel list FILE shows the numbers; they start from 1.",
+    ),
+    refusal(
+        13,
+        "the section's first octet; BASE64: the byte after the empty line",
+        "The octets were damaged on the way, or the program that packed them wrote a pixel outside the element type, such as -1 \
+         in an unsigned frame.",
+        "Copy the file again; where the original has it too, have the frame written again. Such a section may be replaced.",
+    ),
+    refusal(
+        14,
+        "0",
+        "The new frame has another number of pixels than the section has elements, or one of its pixels is outside the section's \
+         element type, such as -1 in an unsigned frame.",
+        "mel list FILE shows elements and type. Give a frame of that many pixels; mask unsigned frames with the greatest value.",
+    ),
+    refusal(
+        15,
+        "0",
+        "The caller of the library lent too little memory, or the new file would have more than 1,073,741,824 bytes. mel lends \
+         enough, so here it is the second.",
+        "Split the file, and replace the frame in the part.",
+    ),
+    refusal(
+        16,
+        "0",
+        "A packed frame would have more than 1,073,741,824 octets. It is proved that no frame does.",
+        "Nobody can meet it; if you do, please report it.",
+    ),
+    refusal(
+        17,
+        "the section's opening boundary",
+        "The catalogue has 32 bytes for the name of a data block, and a name in the file is longer.",
+        "Shorten the name in its data_ line, or use mel list, which shows the whole name.",
+    ),
+    refusal(
+        18,
+        "0",
+        "The octets of a BASE64 section were asked for, or its frame was to be replaced; both are for BINARY sections.",
+        "mel unpack reads BASE64 sections too. To replace the frame, have the file written with BINARY sections.",
+    ),
+];
+
+fn explained(refusal: &Refusal) -> String {
+    let sentence = refusal_text(refusal.number);
+    format!(
+        "refused {}: {sentence}\n  Place: {}.\n  Usual cause: {}\n  What to do: {}\n",
+        refusal.number, refusal.place, refusal.cause, refusal.remedy
+    )
+}
+
+pub fn run(args: &Args) -> Result<u8, Trouble> {
+    let chosen: Vec<&Refusal> = match args.operands.first() {
+        None => REFUSALS.iter().collect(),
+        Some(_) => {
+            let found = args.operands.iter().map(|word| {
+                let number = word.to_str().and_then(|word| word.parse::<u32>().ok());
+                let refusal = REFUSALS.iter().find(|r| Some(r.number) == number);
+                refusal.ok_or_else(|| {
+                    args.usage(&format!(
+                        "there is no refusal {}; the numbers are 1 to 18",
+                        shown(word)
+                    ))
+                })
+            });
+            found.collect::<Result<_, _>>()?
+        }
+    };
+    let texts: Vec<String> = chosen.into_iter().map(explained).collect();
+    output::text(&texts.join("\n"))?;
+    Ok(0)
+}
+
+#[cfg(test)]
+mod tests {
+    use super::*;
+
+    #[test]
+    fn every_number_has_its_sentence() {
+        for (at, refusal) in REFUSALS.iter().enumerate() {
+            assert_eq!(refusal.number as usize, at + 1);
+            assert_ne!(refusal_text(refusal.number), refusal_text(0));
+            assert!(!refusal_text(refusal.number).contains("unknown"));
+        }
+        assert!(refusal_text(REFUSALS.len() as u32 + 1).contains("unknown"));
+    }
+}
