@@ -120,7 +120,7 @@ pub fn open(name: &OsStr) -> Result<(PathBuf, File), Trouble> {
     }
     // Root may write any file; a file that nobody may write is meant to stay, for root too.
     if is.mode() & 0o222 == 0 {
-        return Err(cannot(io::Error::from(ErrorKind::PermissionDenied)));
+        return Err(cannot(io::Error::from_raw_os_error(sys::EACCES)));
     }
     let file = OpenOptions::new().read(true).write(true).open(&target);
     Ok((target, file.map_err(cannot)?))

@@ -98,13 +98,13 @@ fn would(name: &OsStr, section: usize, made: &Copy) -> Result<u8, Trouble> {
     Ok(0)
 }
 
-/// Says what was done, on standard error where the copy itself went to standard output.
+/// Says what was done, on standard error where the copy went to standard output or to a device, which may be the same.
 fn done(name: &OsStr, section: usize, out: Option<&OsStr>, made: &Copy) -> Result<u8, Trouble> {
     let (name, done) = (shown(name), &made.new.done);
     let line = format!("{name}: section {section}: {done}");
     match out {
         None => output::text(&format!("{line}\n"))?,
-        Some(out) if out == "-" => {
+        Some(out) if out == "-" || !fs::metadata(out).is_ok_and(|of| of.is_file()) => {
             progress::end();
             let _ = writeln!(std::io::stderr(), "{line}");
         }

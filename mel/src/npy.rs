@@ -86,7 +86,8 @@ fn parts(bytes: &[u8]) -> Result<(&str, &[u8]), String> {
     };
     let cut = "it ends inside its .npy header; copy or save it again";
     let (head, data) = rest.split_at_checked(length).ok_or(cut)?;
-    let head = std::str::from_utf8(head).map_err(|_| "its .npy header is no text")?;
+    let head = std::str::from_utf8(head)
+        .map_err(|_| "its .npy header is no text; save it again with numpy.save")?;
     Ok((head, data))
 }
 

@@ -19,6 +19,8 @@ extern "C" {
     ) -> c_int;
 }
 
+/// The system's number for a permission that is not given.
+pub const EACCES: c_int = 13;
 const LOCK_EX: c_int = 2;
 const LOCK_NB: c_int = 4;
 const SIGXFSZ: c_int = 25;
