@@ -32,7 +32,8 @@ const REFUSALS: [Refusal; 18] = [
         1,
         "0",
         "The file is of another format, is packed (gzip, bzip2), or is empty after a copy that failed.",
-        "Look at its first line, which starts with ###CBF: VERSION and a number such as 1.5. Unpack it first, or copy it again.",
+        "Look at its first line, which starts with ###CBF: VERSION and a number such as 1.5. Unpack it first, \
+         or copy it again.",
     ),
     refusal(
         2,
@@ -43,8 +44,8 @@ const REFUSALS: [Refusal; 18] = [
     refusal(
         3,
         "that byte",
-        "An accented letter or another byte outside printable ASCII stands in a comment or a header, the file was changed on \
-         its way (as text, by mail or FTP), or its sections have no MIME headers.",
+        "An accented letter or another byte outside printable ASCII stands in a comment or a header, the file \
+         was changed on its way (as text, by mail or FTP), or its sections have no MIME headers.",
         "Look at the byte at that place. Copy the file again as binary, or have it written with MIME headers.",
     ),
     refusal(
@@ -56,48 +57,56 @@ const REFUSALS: [Refusal; 18] = [
     refusal(
         5,
         "the start of that line",
-        "A line among the headers of a section has no name with a colon, or the empty line after the headers is missing.",
-        "Look at that line. A name has letters, digits and hyphens alone, and the colon stands right after it.",
+        "A line among the headers of a section has no name with a colon, or the empty line after the headers \
+         is missing.",
+        "Look at that line. A name has letters, digits and hyphens alone, and the colon stands right after \
+         it.",
     ),
     refusal(
         6,
         "the header's line; where one is missing, the empty line after the headers",
-        "The section uses what this library does not read (real numbers, another compression than byte offset, another encoding \
-         than BINARY and BASE64, big-endian pixels), or a header that is needed (encoding, size, number of elements) is missing.",
+        "The section uses what this library does not read (real numbers, another compression than byte \
+         offset, another encoding than BINARY and BASE64, big-endian pixels), or a header that is needed \
+         (encoding, size, number of elements) is missing.",
         "Look at that header. Have the frame written as integers, uncompressed or with x-CBF_BYTE_OFFSET.",
     ),
     refusal(
         7,
         "the empty line after the headers",
-        "The program that wrote the section counted wrongly: the dimensions give another product than the number of elements, a \
-         slower dimension stands without a faster one, or the size does not go with the elements.",
+        "The program that wrote the section counted wrongly: the dimensions give another product than the \
+         number of elements, a slower dimension stands without a faster one, or the size does not go with the \
+         elements.",
         "Correct the header that is wrong; where you cannot tell which, have the frame written again.",
     ),
     refusal(
         8,
         "the byte after the empty line",
-        "The four bytes 0C 1A 04 D5 do not follow the headers: the file was changed on its way as text, or is cut there.",
+        "The four bytes 0C 1A 04 D5 do not follow the headers: the file was changed on its way as text, or is \
+         cut there.",
         "Copy the file again as binary.",
     ),
     refusal(
         9,
-        "the byte after the declared octets, or the file's length where they run past it; BASE64: the closing line",
-        "The file is cut, its X-Binary-Size is wrong, its line ends were changed on the way, or padding stands between the octets \
-         and the closing boundary (X-Binary-Size-Padding), which is not read yet.",
-        "Compare the file's length with the original's and copy it again as binary. Have it written without padding.",
+        "the byte after the declared octets, or the file's length where they run past it; BASE64: the closing \
+         line",
+        "The file is cut, its X-Binary-Size is wrong, its line ends were changed on the way, or padding \
+         stands between the octets and the closing boundary (X-Binary-Size-Padding), which is not read yet.",
+        "Compare the file's length with the original's and copy it again as binary. Have it written without \
+         padding.",
     ),
     refusal(
         10,
         "that byte; where the text as a whole is wrong, the closing line",
-        "The BASE64 text holds a byte that is no letter of it, is cut, has = in the middle, or gives another number of octets \
-         than X-Binary-Size says.",
+        "The BASE64 text holds a byte that is no letter of it, is cut, has = in the middle, or gives another \
+         number of octets than X-Binary-Size says.",
         "Copy the file again; a mail program may have changed it.",
     ),
     refusal(
         11,
         "the semicolon that opens the field",
         "The file is cut, or a text field is opened by a semicolon at the start of a line and never closed.",
-        "Compare its length with the original's and copy it again, or close the field with a line that starts with a semicolon.",
+        "Compare its length with the original's and copy it again, or close the field with a line that starts \
+         with a semicolon.",
     ),
     refusal(
         12,
@@ -108,22 +117,24 @@ const REFUSALS: [Refusal; 18] = [
     refusal(
         13,
         "the section's first octet; BASE64: the byte after the empty line",
-        "The octets were damaged on the way, or the program that packed them wrote a pixel outside the element type, such as -1 \
-         in an unsigned frame.",
-        "Copy the file again; where the original has it too, have the frame written again. Such a section may be replaced.",
+        "The octets were damaged on the way, or the program that packed them wrote a pixel outside the \
+         element type, such as -1 in an unsigned frame.",
+        "Copy the file again; where the original has it too, have the frame written again. Such a section may \
+         be replaced.",
     ),
     refusal(
         14,
         "0",
-        "The new frame has another number of pixels than the section has elements, or one of its pixels is outside the section's \
-         element type, such as -1 in an unsigned frame.",
-        "mel list FILE shows elements and type. Give a frame of that many pixels; mask unsigned frames with the greatest value.",
+        "The new frame has another number of pixels than the section has elements, or one of its pixels is \
+         outside the section's element type, such as -1 in an unsigned frame.",
+        "mel list FILE shows elements and type. Give a frame of that many pixels; mask unsigned frames with \
+         the greatest value.",
     ),
     refusal(
         15,
         "0",
-        "The caller of the library lent too little memory, or the new file would have more than 1,073,741,824 bytes. mel lends \
-         enough, so here it is the second.",
+        "The caller of the library lent too little memory, or the new file would have more than 1,073,741,824 \
+         bytes. mel lends enough, so here it is the second.",
         "Split the file, and replace the frame in the part.",
     ),
     refusal(
@@ -141,8 +152,10 @@ const REFUSALS: [Refusal; 18] = [
     refusal(
         18,
         "0",
-        "The octets of a BASE64 section were asked for, or its frame was to be replaced; both are for BINARY sections.",
-        "mel unpack reads BASE64 sections too. To replace the frame, have the file written with BINARY sections.",
+        "The octets of a BASE64 section were asked for, or its frame was to be replaced; both are for BINARY \
+         sections.",
+        "mel unpack reads BASE64 sections too. To replace the frame, have the file written with BINARY \
+         sections.",
     ),
 ];
 

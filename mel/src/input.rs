@@ -30,7 +30,8 @@ pub fn open_cbf(name: &OsStr, file: &File) -> Result<Vec<u8>, Trouble> {
     if before.is_file() && state(&before) != state(&after) {
         let name = shown(name);
         return Err(Trouble::System(format!(
-            "{name}: changed while it was read, by a program that writes straight over it; run this again when it is done"
+            "{name}: changed while it was read, by a program that writes straight over it; \
+             run this again when it is done"
         )));
     }
     Ok(bytes)

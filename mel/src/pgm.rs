@@ -8,8 +8,8 @@ use std::ffi::OsStr;
 
 const WHITE: i128 = 65_535;
 
-/// Least and greatest of the pixels that count, which are scaled to 0 and 65,535. Those below 0 and, in an unsigned type,
-/// those of the type's greatest value are customary masks and do not count, unless there are no others.
+/// Least and greatest of the pixels that count, which are scaled to 0 and 65,535. Those below 0 and, in an unsigned
+/// type, those of the type's greatest value are customary masks and do not count, unless there are no others.
 fn ends(kind: &Type, pixels: &[i64]) -> (i64, i64) {
     let span = |pixels: &mut dyn Iterator<Item = i64>| {
         pixels.fold(None, |ends: Option<(i64, i64)>, pixel| {
