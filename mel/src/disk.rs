@@ -220,7 +220,7 @@ fn failed(name: &OsStr, error: &io::Error) -> Trouble {
     };
     let (name, because) = (shown(name), because(error));
     Trouble::System(format!(
-        "{name}: not written and as it was before: {because}; {what_to_do}"
+        "{name}: not written, nothing is changed: {because}; {what_to_do}"
     ))
 }
 

@@ -159,12 +159,29 @@ const REFUSALS: [Refusal; 18] = [
     ),
 ];
 
+const WIDTH: usize = 79;
+
+/// A paragraph in lines that fit a terminal.
+fn paragraph(text: &str) -> String {
+    let mut lines = vec![String::from(" ")];
+    for word in text.split(' ') {
+        let last = lines.last_mut().expect("there is a line");
+        if last.len() + 1 + word.len() > WIDTH {
+            lines.push(format!("    {word}"));
+        } else {
+            last.push(' ');
+            last.push_str(word);
+        }
+    }
+    lines.join("\n") + "\n"
+}
+
 fn explained(refusal: &Refusal) -> String {
-    let sentence = refusal_text(refusal.number);
-    format!(
-        "refused {}: {sentence}\n  Place: {}.\n  Usual cause: {}\n  What to do: {}\n",
-        refusal.number, refusal.place, refusal.cause, refusal.remedy
-    )
+    let (number, sentence) = (refusal.number, refusal_text(refusal.number));
+    let place = paragraph(&format!("Place: {}.", refusal.place));
+    let cause = paragraph(&format!("Usual cause: {}", refusal.cause));
+    let remedy = paragraph(&format!("What to do: {}", refusal.remedy));
+    format!("refused {number}: {sentence}\n{place}{cause}{remedy}")
 }
 
 pub fn run(args: &Args) -> Result<u8, Trouble> {
