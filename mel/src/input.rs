@@ -3,13 +3,15 @@
 
 use crate::progress;
 use crate::trouble::{shown, Trouble};
-use mooringelm::{Refusal, FILE_LIMIT};
+use mooringelm::{Refusal, FILE_LIMIT, PIXEL_LIMIT};
 use std::ffi::OsStr;
 use std::fs::{File, Metadata};
 use std::io::{self, Read};
 use std::os::unix::fs::MetadataExt;
 
 const PART: usize = 1 << 24;
+/// Eight bytes for each pixel that a section can have, and a header.
+const FRAME_LIMIT: usize = 8 * PIXEL_LIMIT + (1 << 20);
 
 /// A CBF file as a whole, `-` for standard input.
 pub fn cbf(name: &OsStr) -> Result<Vec<u8>, Trouble> {
@@ -39,14 +41,20 @@ pub fn open_cbf(name: &OsStr, file: &File) -> Result<Vec<u8>, Trouble> {
 
 /// A frame or a mask as a whole, `-` for standard input.
 pub fn other(name: &OsStr) -> Result<Vec<u8>, Trouble> {
-    let mut bytes = Vec::new();
+    let (mut bytes, limit) = (Vec::new(), FRAME_LIMIT as u64 + 1);
     let done = if name == "-" {
-        io::stdin().lock().read_to_end(&mut bytes)
+        io::stdin().lock().take(limit).read_to_end(&mut bytes)
     } else {
-        File::open(name).and_then(|mut file| file.read_to_end(&mut bytes))
+        File::open(name).and_then(|file| file.take(limit).read_to_end(&mut bytes))
     };
     done.map_err(|e| cannot(name, &e))?;
-    Ok(bytes)
+    match bytes.len() <= FRAME_LIMIT {
+        true => Ok(bytes),
+        false => Err(Trouble::Refused(format!(
+            "{}: it has more bytes than a frame can have; give an array of the section's shape",
+            shown(name)
+        ))),
+    }
 }
 
 /// What tells that a file is as it was: device, inode, size, and time of change.
@@ -70,25 +78,26 @@ fn too_long(name: &OsStr) -> Trouble {
     )
 }
 
+/// All that comes, at most the limit; the whole is 0 where its length is not known.
 fn stream(name: &OsStr, from: impl Read, whole: usize) -> Result<Vec<u8>, Trouble> {
     let text = format!("reading {}", shown(name));
     let mut bytes = Vec::new();
+    let mut room = whole + 1;
     let mut from = from.take(FILE_LIMIT as u64 + 1);
     loop {
         progress::stage(&text, bytes.len(), whole);
-        let room = PART.min(whole.saturating_sub(bytes.len()) + 1).max(8_192);
         if bytes.try_reserve(room).is_err() {
             let name = shown(name);
             return Err(Trouble::System(format!(
                 "{name}: not enough memory to read it"
             )));
         }
-        let got = from.by_ref().take(room as u64).read_to_end(&mut bytes);
+        room = PART;
+        let got = from.by_ref().take(PART as u64).read_to_end(&mut bytes);
         match got.map_err(|e| cannot(name, &e))? {
-            0 => break,
+            0 => return Ok(bytes),
             _ if bytes.len() > FILE_LIMIT => return Err(too_long(name)),
             _ => {}
         }
     }
-    Ok(bytes)
 }
