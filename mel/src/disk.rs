@@ -65,9 +65,9 @@ impl Held {
         let (folder, own) = parts(&self.target);
         let fail = |error: io::Error| failed(&self.name, &error);
         let mut temporary = Temporary::create(folder, own, 0o600).map_err(fail)?;
+        temporary.resemble(&self.file).map_err(fail)?;
         let what = format!("writing {}", shown(&self.name));
         temporary.write(bytes, &what).map_err(fail)?;
-        temporary.resemble(&self.file).map_err(fail)?;
         temporary.sync().map_err(fail)?;
         self.last_look(seen)?;
         let _lock = temporary.rename(&self.target).map_err(fail)?;

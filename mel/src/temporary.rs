@@ -94,7 +94,8 @@ impl Temporary {
         Ok(())
     }
 
-    /// Gives it owner, group, mode and attributes of another file, as far as the system allows.
+    /// Gives it owner, group, mode and attributes of another file, as far as the system allows. That comes before it is
+    /// written, so that whoever may edit the file may open, and remove, what a kill leaves behind.
     pub fn resemble(&self, old: &File) -> io::Result<()> {
         let of = old.metadata()?;
         if fchown(&self.file, Some(of.uid()), Some(of.gid())).is_err() {
