@@ -21,6 +21,7 @@ from mooringelm._pixels import numpy_or_none
 ROUNDS = 100
 KILLS = 100
 OPENS, EDITS = 1000, 10
+LONGEST = 300
 
 OLD, NEW = forty(), forty({7})
 
@@ -57,7 +58,7 @@ def two_at_once(path):
 
         def work(number):
             gate.wait()
-            mask_on_disk(path, number)
+            mask_on_disk(path, number, wait=60)
 
         editors = [started(lambda number=number: work(number)) for number in (7, 12)]
         gate.open()
@@ -135,8 +136,10 @@ def reader(path):
     os.close(tell)
     counts = {OLD: 0, NEW: 0}
     edits = 0
+    until = time.monotonic() + LONGEST
     try:
         while sum(counts.values()) < OPENS or edits < EDITS:
+            check(time.monotonic() < until, "only", edits, "edits in", LONGEST, "s")
             with mooringelm.open(path) as f:
                 check(f.data in counts and len(f) == 40, "a reader finds another file after", counts.values(), "opens")
                 counts[f.data] += 1

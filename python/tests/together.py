@@ -12,7 +12,7 @@ import time
 from support import ROOT, Gate, check, ended, equal, folder, killed, raised, say, started
 
 import mooringelm
-from disk import NEW, OLD, ROUNDS, edit_on_and_on, left_behind, mask_on_disk
+from disk import LONGEST, NEW, OLD, ROUNDS, edit_on_and_on, left_behind, mask_on_disk
 from files import forty
 
 MEL = os.path.abspath(sys.argv[1] if len(sys.argv) > 1 else ROOT / "target" / "bin" / "mel")
@@ -42,13 +42,13 @@ def two_at_once(path):
 
         def work():
             gate.wait()
-            mask_on_disk(path, for_python)
+            mask_on_disk(path, for_python, wait=60)
 
         editor = started(work)
         # Now the one starts a little earlier, and now the other.
         first, second = random.uniform(0, 0.004), random.uniform(0, 0.004)
         time.sleep(first)
-        program = mel(path, for_mel)
+        program = mel(path, for_mel, "--wait", "60")
         time.sleep(second)
         gate.open()
         equal((status(program), ended(editor)), (0, 0), "editors of round", turn)
@@ -60,8 +60,9 @@ def two_at_once(path):
 
 def writes(path, over):
     """Waits until a temporary file is there, or all is over."""
+    until = time.monotonic() + LONGEST
     while not left_behind(path) and not over():
-        pass
+        check(time.monotonic() < until, "no temporary file in", LONGEST, "s")
 
 
 def killed_mel(path):
@@ -127,7 +128,7 @@ def is_held(path):
 
 def held_by_mel(path):
     """mel, stopped while it holds the file."""
-    for _ in range(100):
+    for _ in range(1000):
         path.write_bytes(OLD)
         program = mel(path, 7)
         while program.poll() is None and not is_held(path):
