@@ -24,7 +24,9 @@ RUST := $(shell find mel -name '*.rs' -o -name Cargo.toml) include/mooringelm.h
 all: lib target/bin/mel
 lib: target/lib/libmooringelm.a target/lib/libmooringelm.so
 
+# rt check proves crates that do not depend on each other side by side; rt staticlib alone would prove one by one.
 target/lib/libmooringelm.a: $(PROVED)
+	rt check cbf_capi
 	rt staticlib cbf_capi
 	mkdir -p target/lib
 	cp target/staticlib/libcbf_capi.a $@
