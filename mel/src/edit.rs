@@ -13,17 +13,20 @@ use std::fs;
 use std::io::Write;
 use std::os::unix::fs::MetadataExt;
 
-/// The new frame and what is said of it, once with what was done and once with what would be.
+/// The new frame, whether it is the one that is there, and what is said of it, once with what was done and once with
+/// what would be.
 pub struct New {
     pub frame: Vec<i64>,
+    pub same: bool,
     pub done: String,
     pub would: String,
 }
 
-/// The copy of a file that the library made.
+/// The copy of a file that the library made, and whether an edit in place has something to write.
 struct Copy {
     bytes: Vec<u8>,
     before: usize,
+    same: bool,
     new: New,
 }
 
@@ -50,7 +53,9 @@ pub fn run(args: &Args, make: &Make) -> Result<u8, Trouble> {
             let held = Held::take(name, wait)?;
             let (file, seen) = held.read()?;
             let made = copied(&file)?;
-            held.put(&made.bytes, Some(&seen))?;
+            if !made.same {
+                held.put(&made.bytes, Some(&seen))?;
+            }
             made
         }
         Some(out) => {
@@ -85,15 +90,23 @@ fn copy(name: &OsStr, file: &[u8], number: usize, make: &Make) -> Result<Copy, T
     let mut bytes = room::bytes(replaced_limit(file.len(), new.frame.len()))?;
     let length = mooringelm::replace(file, number, &new.frame, &mut bytes).map_err(refused)?;
     bytes.truncate(length);
-    let before = file.len();
-    Ok(Copy { bytes, before, new })
+    Ok(Copy {
+        before: file.len(),
+        same: new.same || bytes == file,
+        bytes,
+        new,
+    })
 }
 
 fn would(name: &OsStr, section: usize, made: &Copy) -> Result<u8, Trouble> {
     let (name, would) = (shown(name), &made.new.would);
     let (before, after) = (made.before, made.bytes.len());
+    let change = match made.same {
+        true => "no pixel would change".to_string(),
+        false => format!("{before} bytes would become {after}"),
+    };
     output::text(&format!(
-        "{name}: section {section}: {would}; {before} bytes would become {after}; nothing is written\n"
+        "{name}: section {section}: {would}; {change}; nothing is written\n"
     ))?;
     Ok(0)
 }
@@ -103,6 +116,9 @@ fn done(name: &OsStr, section: usize, out: Option<&OsStr>, made: &Copy) -> Resul
     let (name, done) = (shown(name), &made.new.done);
     let line = format!("{name}: section {section}: {done}");
     match out {
+        None if made.same => {
+            output::text(&format!("{line}; no pixel changes, nothing is written\n"))?
+        }
         None => output::text(&format!("{line}\n"))?,
         Some(out) if out == "-" || !fs::metadata(out).is_ok_and(|of| of.is_file()) => {
             progress::end();

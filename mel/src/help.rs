@@ -93,7 +93,8 @@ mel mask FILE SECTION --above N [--value V] [-n] [-o OUT] [--wait S]
 mel mask FILE SECTION --mask M.npy [--value V] [-n] [-o OUT] [--wait S]
 
 Masks pixels of a BINARY section: unpacks, masks and replaces in one locked step, as
-mel replace does, and prints how many pixels were masked.
+mel replace does, and prints how many pixels were masked. Where no pixel changes, the
+file stays as it is, its old headers too.
 
   --above N   masks the pixels above N
   --mask M.npy

@@ -31,7 +31,7 @@ pub fn run(args: &Args) -> Result<u8, Trouble> {
     edit::run(args, &|file, number, section| {
         let value = checked(name, value, number, section)?;
         let mut frame = frame::unpack(name, file, number, section)?;
-        let masked = match &which {
+        let (masked, changed) = match &which {
             Which::Above(above) => put(&mut frame, value, |_, pixel| pixel > *above),
             Which::Nonzero(name, mask) => {
                 npy::fits(name, mask, number, section)?;
@@ -42,22 +42,24 @@ pub fn run(args: &Args) -> Result<u8, Trouble> {
         let of = format!("{masked} of {} pixels", frame.len());
         Ok(New {
             frame,
+            same: changed == 0,
             done: format!("{of} masked with {value}"),
             would: format!("{of} would be masked with {value}"),
         })
     })
 }
 
-/// Sets the pixels that are chosen, and counts them.
-fn put(frame: &mut [i64], value: i64, chosen: impl Fn(usize, i64) -> bool) -> usize {
-    let mut masked = 0;
+/// Sets the pixels that are chosen, and counts them, and those of them that had another value.
+fn put(frame: &mut [i64], value: i64, chosen: impl Fn(usize, i64) -> bool) -> (usize, usize) {
+    let (mut masked, mut changed) = (0, 0);
     for (at, pixel) in frame.iter_mut().enumerate() {
         if chosen(at, *pixel) {
-            *pixel = value;
             masked += 1;
+            changed += usize::from(*pixel != value);
+            *pixel = value;
         }
     }
-    masked
+    (masked, changed)
 }
 
 /// The value for masked pixels: the customary one of the type, or a given one that is in the type.

@@ -38,6 +38,7 @@ pub fn run(args: &Args) -> Result<u8, Trouble> {
         let what = format!("{} pixels, {kind} {shape}", frame.len());
         Ok(New {
             frame,
+            same: false,
             done: format!("replaced by {what}"),
             would: format!("would be replaced by {what}"),
         })
