@@ -9,7 +9,7 @@ use Rattle.cbf_capi.proofs.mel_replace.Tie as tie
 
 answer-of-requires : tie.Need-answer-of-requires
 answer-of-requires c κs = let a = c .before .before .before .before .before .before .args in rw
-    (c .before .before .replace .ensures .0) (replace-fits _ (a .file .now) (a .section) (a .frame .now)
+    (c .before .before .replace .ensures .0) (replace-fits _ (a .file .now) _ (a .frame .now)
     (length (a .out .now)))
 
 returns : tie.Need-returns

@@ -9,7 +9,7 @@ use Rattle.cbf_capi.proofs.mel_unpack.Tie as tie
 
 answer-of-requires : tie.Need-answer-of-requires
 answer-of-requires c κs = let a = c .before .before .before .before .args in rw (c .before .unpack .ensures .0)
-    (frame-fits _ (a .file .now) (a .section) (length (a .pixels .now)))
+    (frame-fits _ (a .file .now) _ (length (a .pixels .now)))
 
 returns : tie.Need-returns
 returns c = let E = c .before .before .unpack .ensures in (c .answer-of .ensures ∙ ap returned (E .0), E .1)
