@@ -12,6 +12,8 @@ use Rattle.cbf_answers.specs.declared.Refusal.{Refusal}
 use Rattle.cbf_answers.specs.Limits.{fileLimit}
 use Rattle.cbf_format.specs.Listing.{Placed, sections}
 use Rattle.cbf_reader.specs.Walk.{whole, startCursor, ReadTo, SectionOf, NextSays, endOf}
+use Rattle.cbf_reader.specs.WholeFile.{FoundAt}
+use Rattle.cbf_reader.specs.declared.whole_file.SectionFound.{SectionFound}
 use Rattle.cbf_reader.specs.declared.step.Cursor.{Cursor}
 use Rattle.cbf_format.specs.declared.Section.{Section}
 use Rattle.cbf_reader.specs.declared.step.Field.{Field}
@@ -106,3 +108,11 @@ module _ {limit : ℕ} {file : List ℕ} {c : Cursor} (k : LoopAt limit file c) 
             sections-more = m;
             count-more = f .8 .stands .count ∙ sym (f .8 .counted) ∙ ap length m ∙ omega (arith, length-append (sections 0 (k .done)) (p ∷ []));
           }
+
+-- a loop may begin at the cursor before the section with a number
+module _ {limit : ℕ} {file : List ℕ} {n : ℕ} {f : SectionFound} (b : FoundAt limit file n f) where
+  abbrev pub loop-before : LoopAt limit file (f .before)
+  loop-before = record { done = b .done; come = b .come; outside = b .outside }
+
+  pub before-count : suc (f .before .count) ≡ n
+  before-count = ap suc (loop-count loop-before) ∙ b .before

@@ -12,5 +12,8 @@ pub use walk::Start;
 pub use walk::begin;
 pub use walk::next_section;
 pub use whole_file::Count;
+pub use whole_file::SectionFound;
+pub use whole_file::SectionPlace;
 pub use whole_file::count_sections;
 pub use whole_file::numbered_section;
+pub use whole_file::section_place;

@@ -1,8 +1,6 @@
-use mathlib.Core.Path.{ap, _∙_}
 use denote.Ref.{now}
 use borrow.Author.Needs.{needs}
-use Rattle.cbf_reader.specs.declared.whole_file.FileSections.the-variants.{Accepted}
-use Rattle.cbf_reader.proofs.WholeFileLaws.{whole_file-numbered}
+use Rattle.cbf_reader.proofs.WholeFileLaws.{place-numbered}
 use Rattle.cbf_reader.proofs.whole_file.numbered_section.Statement.{statement}
 use Rattle.cbf_format.specs.Files as F
 use Rattle.cbf_reader.proofs.whole_file.numbered_section.Tie as tie
@@ -10,26 +8,17 @@ use Rattle.cbf_reader.proofs.whole_file.numbered_section.Tie as tie
 returns : tie.Need-returns
 returns c =
     let a = c .before .before .before .before .before .args in
-    whole_file-numbered (now (a .file)) (a .number) (F.read (a .limit) (now (a .file))) (c .before .s .given .1) (c .before .before .before .read-file .ensures)
+    place-numbered (a .limit) (now (a .file)) (a .number) (F.read (a .limit) (now (a .file)))
+    (c .before .place .given .1) (c .before .before .before .section-place .ensures)
 
 returns-2 : tie.Need-returns-2
 returns-2 c =
-    let a = c .before .before .before .before .before .before .before .args in
-    whole_file-numbered (now (a .file)) (a .number) (F.read (a .limit) (now (a .file)))
-    (c .before .before .before .s2 .given .1 ∙ ap (Accepted (c .before .before .before .s2 .given .0 .0))
-    (c .enum-told .given .1)) (c .before .before .before .before .before .read-file .ensures)
-
-returns-3 : tie.Need-returns-3
-returns-3 c =
-    let a = c .before .before .before .before .before .before .before .before .args in
-    whole_file-numbered (now (a .file)) (a .number) (F.read (a .limit) (now (a .file)))
-    (c .before .before .before .before .s2 .given .1
-    ∙ ap (Accepted (c .before .before .before .before .s2 .given .0 .0)) (c .before .requested .given .1))
-    (c .before .before .before .before .before .before .read-file .ensures)
+    let a = c .before .before .before .before .before .before .args in
+    place-numbered (a .limit) (now (a .file)) (a .number) (F.read (a .limit) (now (a .file)))
+    (c .before .before .place2 .given .1) (c .before .before .before .before .section-place .ensures)
 
 pub numbered-section-spec : {M : Type 1} → statement M
 numbered-section-spec =
     tie.close
     (tie.spec
-    (λ c κs. search needs) (λ c. search needs) (λ c. search needs) (λ c. search needs) (λ c. search needs)
-    returns returns-2 returns-3)
+    (λ c κs. search needs) (λ c. search needs) (λ c. search needs) returns returns-2)
