@@ -26,9 +26,9 @@ use Rattle.cbf_format.specs.Sections.{Section}
 use Rattle.cbf_format.specs.Files.{State, Tree, read}
 use Rattle.cbf_format.specs.Listing.{Placed, sections, numbered, position, listing}
 use Rattle.cbf_format.specs.Catalogue.{catalogue, longName}
-use Rattle.cbf_format.proofs.FileLaws.{accepted}
+use Rattle.cbf_format.proofs.FileLaws.{accepted, few-sections}
 use Rattle.cbf_format.proofs.PlaceLaws.{read-limit, long-name-place}
-use Rattle.cbf_format.proofs.ListingLaws.{few-sections, listing-short}
+use Rattle.cbf_format.proofs.ListingLaws.{listing-short}
 use Rattle.cbf_format.proofs.OctetLaws.{DataAt, data-at, position-in, span-in, binary-octets, octet-count}
 use Rattle.cbf_format.proofs.OctetLaws.{bounded, few-elements}
 use Rattle.cbf_format.specs.SectionCalls.{Result, refusal, value, orMissing, sectionNumbered, ofSection}

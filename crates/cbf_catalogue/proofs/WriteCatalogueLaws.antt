@@ -17,9 +17,8 @@ use Rattle.cbf_answers.specs.Limits.{fileLimit}
 use Rattle.cbf_format.specs.Text.{bytes}
 use Rattle.cbf_format.specs.Listing.{Placed, sections}
 use Rattle.cbf_format.specs.Catalogue.{entries, catalogue, longName}
-use Rattle.cbf_format.proofs.FileLaws.{accepted}
+use Rattle.cbf_format.proofs.FileLaws.{accepted, few-sections}
 use Rattle.cbf_format.proofs.PlaceLaws.{long-name-place}
-use Rattle.cbf_format.proofs.ListingLaws.{few-sections}
 use Rattle.cbf_answers.specs.Rooms.{roomFor}
 use Rattle.cbf_catalogue.specs.WriteCatalogue.{heading}
 use Rattle.cbf_format.specs.CatalogueCalls.{cataloguedOr, catalogueOutcome, catalogueText}

@@ -9,16 +9,16 @@ use native.Mathlib.Nat.{not-suc-le-zero}
 use native.Mathlib.Omega.{arith}
 use lib.Dec.{leb}
 use borrow.Author.Tests.{le-leb, leb-true, leb-false}
-use lib.ListN.{length, drop, length-append}
+use lib.ListN.{length, drop}
 use Rattle.cbf_walk.specs.Parsers.{Res, ok, Parser, hd, ret, counted, screen, bind}
 use Rattle.cbf_walk.proofs.Tame.{Tame, Moves}
-use Rattle.cbf_walk.specs.Reading.{Item, refused, good, flat, readF}
+use Rattle.cbf_walk.specs.Reading.{refused, good, flat, readF}
 use Rattle.cbf_walk.proofs.Good.{Good}
-use Rattle.cbf_walk.proofs.Edits.{sectionCount, Spans}
+use Rattle.cbf_walk.proofs.Sections.{Spans}
 use Rattle.cbf_walk.proofs.ParserLaws.{Unbound, ok-val, ok-num, unbind, bind-tame, bind-moves, ret-tame, uncount}
 use Rattle.cbf_walk.proofs.ParserLaws.{counted-tame, counted-moves, unscreen, screen-tame, screen-moves}
 use Rattle.cbf_walk.proofs.ReadingLaws.{refused≢good, sound, complete}
-use Rattle.cbf_walk.proofs.EditLaws.{spans}
+use Rattle.cbf_walk.proofs.SectionLaws.{spans}
 use Rattle.cbf_format.specs.Text.{same}
 use Rattle.cbf_format.specs.Lines.{line, refusedByte, textLine}
 use Rattle.cbf_format.specs.Sections.{opening, Section, section}
@@ -26,6 +26,7 @@ use Rattle.cbf_answers.specs.Limits.{fileLimit}
 use Rattle.cbf_format.specs.Files.{refusedFirst, Field, first-line, outside, opened, inside, State, start, due}
 use Rattle.cbf_format.specs.Files.{afterLine, afterSection, isOpened, isBoundary, oneTooMany, stepLine}
 use Rattle.cbf_format.specs.Files.{sectionOr, afterStepLine, step, Tree, readSome, read}
+use Rattle.cbf_format.specs.Listing.{Placed, addPlaced, sections}
 use Rattle.cbf_format.proofs.LineTame.{line-tame, line-pos, line-hd, textLine-tame, and-true, same-eq}
 use Rattle.cbf_format.proofs.SectionTame.{section-tame}
 use Rattle.cbf_format.proofs.SectionLaws.{Closes, closes-later, data-says, Sectioned, sectioned}
@@ -212,18 +213,9 @@ module _ (limit : ℕ) (st t : State) (s : List ℕ) where
 
 -- ---- spans
 
--- a span lies in its item, and its octets begin in it
+-- a span lies in its item
 pub span-in : (limit : ℕ) (st t : State) (b r : List ℕ) (i : Section) → step limit st (b ++ r) ≡ ok (some i, t) (length b) → i .width ≤ length b
 span-in limit st t b r i e = omega (arith, took limit st t (b ++ r) i (length b) e .closes .sum)
-
-pub first-in : (limit : ℕ) (st t : State) (b r : List ℕ) (i : Section) → step limit st (b ++ r) ≡ ok (some i, t) (length b) → i .first ≤ i .width
-first-in limit st t b r i e = took limit st t (b ++ r) i (length b) e .lead
-
--- it begins with the opening boundary's first hyphen
-pub span-hyphen : (limit : ℕ) (st t : State) (b r : List ℕ) (i : Section) → step limit st (b ++ r) ≡ ok (some i, t) (length b) → hd b ≡ some 45
-span-hyphen limit st t [] [] i e = took limit st t [] i 0 e .starts
-span-hyphen limit st t [] (x ∷ r) i e = absurd (not-suc-le-zero (step-moves limit st x r (some i, t) 0 e))
-span-hyphen limit st t (x ∷ b) r i e = took limit st t (x ∷ (b ++ r)) i (suc (length b)) e .starts
 
 -- ---- reading
 
@@ -258,36 +250,32 @@ accepts limit file its a = rw (le-leb (length file) fileLimit (a .not-long)) (no
     nonempty [] h = absurd (not-suc-le-zero h)
     nonempty (x ∷ s) h = refl
 
--- a good tree with an item is what its bytes are read as
-pub read-back : (limit : ℕ) (it : Item State Section) (its : Tree) → Good (step limit) due start (it ∷ its) → length (flat (it ∷ its)) ≤ fileLimit
-    → read limit (flat (it ∷ its)) ≡ good (it ∷ its)
-unfolding flat Good
-read-back limit it its g l = accepts limit (flat (it ∷ its)) (it ∷ its)
-    (record { is-good = g; whole = refl; not-empty = omega (arith, g .1, length-append (it .bytes) (flat its)); not-long = l })
-
 -- the spans of an accepted file lie in its items
 pub accepted-spans : (limit : ℕ) (file : List ℕ) (its : Tree) → Accepts limit file its → Spans (λ (i : Section). i .width) its
 accepted-spans limit file its a = spans (λ (i : Section). i .width) (step limit) due (span-in limit) its start (a .is-good)
 
 -- ---- "Sections: at most 512"
 
-counts : (limit : ℕ) (its : Tree) (st : State) → Good (step limit) due st its → st .count ≤ 512 → st .count + sectionCount its ≤ 512
-unfolding Good sectionCount
-counts limit [] st g h = omega arith
-counts limit (it ∷ its) st g h = go (it .info) (it .next) (g .0) (λ h. counts limit its (it .next) (g .2) h)
+counts : (limit : ℕ) (its : Tree) (st : State) (at : ℕ) → Good (step limit) due st its → st .count ≤ 512
+    → st .count + length (sections at its) ≤ 512
+unfolding Good sections
+counts limit [] st at g h = omega arith
+counts limit (it ∷ its) st at g h = go (it .info) (it .next) (g .0) (λ h. counts limit its (it .next) _ (g .2) h)
   where
-    go : (o : Option Section) (t : State) → step limit st (it .bytes ++ flat its) ≡ ok (o, t) (length (it .bytes))
-        → (t .count ≤ 512 → t .count + sectionCount its ≤ 512)
-        → st .count + sectionCount (record { bytes = it .bytes; info = o; next = t } ∷ its) ≤ 512
-    go none t e ih =
-        let c : t .count ≡ st .count = ap (λ (z : State). z .count) (passed limit st t (it .bytes ++ flat its) (length (it .bytes)) e .after) in
-        omega (arith, c, ih (omega (arith, c, h)))
-    go (some i) t e ih = one (took limit st t (it .bytes ++ flat its) i (length (it .bytes)) e)
-      where
-        one : Took limit st t (it .bytes ++ flat its) i (length (it .bytes)) → st .count + suc (sectionCount its) ≤ 512
-        one k =
-            let c : t .count ≡ suc (st .count) = ap (λ (z : State). z .count) (k .after) in
-            omega (arith, c, ih (omega (arith, c, k .has-room)))
+    rest : List Placed
+    rest = sections (at + length (it .bytes)) its
 
-pub sections-most : (limit : ℕ) (file : List ℕ) (its : Tree) → Accepts limit file its → sectionCount its ≤ 512
-sections-most limit file its a = omega (arith, counts limit its start (a .is-good) (omega arith))
+    go : (o : Option Section) (t : State) → step limit st (it .bytes ++ flat its) ≡ ok (o, t) (length (it .bytes))
+        → (t .count ≤ 512 → t .count + length rest ≤ 512) → st .count + length (addPlaced at o rest) ≤ 512
+    go none t e ih =
+        let p = passed limit st t (it .bytes ++ flat its) (length (it .bytes)) e in
+        let c : t .count ≡ st .count = ap (λ (z : State). z .count) (p .after) in
+        omega (arith, c, ih (omega (arith, c, h)))
+    go (some i) t e ih =
+        let k = took limit st t (it .bytes ++ flat its) i (length (it .bytes)) e in
+        let c : t .count ≡ suc (st .count) = ap (λ (z : State). z .count) (k .after) in
+        omega (arith, c, ih (omega (arith, c, k .has-room)))
+
+pub few-sections : (limit : ℕ) (file : List ℕ) (its : Tree) → read limit file ≡ good its → length (sections 0 its) ≤ 512
+few-sections limit file its e =
+    omega (arith, counts limit its start 0 (accepted limit file its e .is-good) (omega arith))

@@ -21,10 +21,9 @@ use Rattle.cbf_format.specs.declared.KnownHeader.the-variants.{TransferE
 use Rattle.cbf_format.specs.declared.KnownHeader.the-variants.{Kind, ByteOrder, Id, Fastest, Second, Third}
 use Rattle.cbf_format.specs.Values.{decimalNumber, between, knownHeaders, headerNamed, typeWords, valueOf}
 use Rattle.cbf_format.specs.declared.Description.{Description}
-use Rattle.cbf_format.specs.Descriptions.{found, ordinal, sameHeader, look, judge, dimensionsAgree}
-use Rattle.cbf_format.specs.Descriptions.{descriptionOf, description, optional, orZero, compressionOf, typeOf}
-use Rattle.cbf_format.specs.Descriptions.{described, orDisagrees, describes, verdictOf, verdict, concluded}
-use Rattle.cbf_format.specs.Descriptions.{headers}
+use Rattle.cbf_format.specs.Descriptions.{found, ordinal, sameHeader, look, judge, dimensionsAgree, descriptionOf}
+use Rattle.cbf_format.specs.Descriptions.{description, optional, orZero, compressionOf, typeOf, described}
+use Rattle.cbf_format.specs.Descriptions.{orDisagrees, describes, verdictOf, verdict, concluded, headers}
 use Rattle.cbf_answers.specs.Limits.{fileLimit, pixelLimit}
 use Rattle.cbf_format.specs.Listing.{printed}
 use Rattle.cbf_format.specs.Catalogue.{typeNumber}

@@ -11,7 +11,7 @@ use borrow.Author.Tests.{lt-leb, lt-ltb, ltb-true}
 use lib.ListN.{length, drop, length-append, length-drop}
 use lib.Seq.{drop-at, drop-append-le, drop-append-add}
 use Rattle.cbf_walk.specs.Parsers.{ok, Parser, ret, counted, screenOr, blame, bind}
-use Rattle.cbf_walk.proofs.Edits.{Lawful}
+use Rattle.cbf_walk.proofs.Choices.{Lawful}
 use Rattle.cbf_walk.proofs.ParserLaws.{bind-at, counted-ok}
 use Rattle.cbf_format.specs.Text.{textual}
 use Rattle.cbf_format.specs.Lines.{refusedByte, textLine, lineEnd, exactly, literal}
@@ -162,7 +162,7 @@ step-house limit st os q t k i l f is-open room name e =
 
 -- BINARY or BASE64 before, the span is exchanged for house form
 pub house-lawful : (limit : ℕ) (os : List ℕ) (i : Section) → 48 ≤ limit → Fits (i .description) os
-    → Lawful (step limit) (λ (j : Section). j .width) (λ (j : Section). house (j .description) os) (housedSection os) i
+    → Lawful (step limit) (λ (j : Section). j .width) i (house (i .description) os, housedSection os i)
 unfolding house
 house-lawful limit os i l f = record {
   reads = λ st t b r e. reads st t b r (took limit st t (b ++ r) i (length b) e);

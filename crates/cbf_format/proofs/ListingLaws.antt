@@ -1,6 +1,6 @@
 -- How long a listing is: of each number, of each block name, of the list of sections, and of the whole. Assumes
 -- nothing.
-use mathlib.Core.Path.{_≡_, refl, ap}
+use mathlib.Core.Path.{_≡_, ap}
 use mathlib.Core.Option.{Option, none, some}
 use mathlib.Core.Bool.{Bool, true, false, cond}
 use mathlib.Core.List.{List, [], _∷_, _++_}
@@ -12,7 +12,6 @@ use lib.ListN.{length, take, drop, length-append, length-drop}
 use Rattle.cbf_walk.specs.Parsers.{ok}
 use Rattle.cbf_walk.specs.Reading.{good, flat}
 use Rattle.cbf_walk.proofs.Good.{Good}
-use Rattle.cbf_walk.proofs.Edits.{sectionCount as count}
 use Rattle.cbf_pixels.specs.declared.ElementType.{ElementType}
 use Rattle.cbf_pixels.specs.declared.ElementType.the-variants.{U8, S8, U16, S16, U32, S32}
 use Rattle.cbf_pixels.specs.declared.Compression.{Compression}
@@ -24,7 +23,7 @@ use Rattle.cbf_format.specs.Files.{nextBlock, stepLine, step, Tree, read
 use Rattle.cbf_format.specs.Listing.{Placed, addPlaced, sections, position, digitsOf, compressionName, typeName}
 use Rattle.cbf_format.specs.Listing.{named, sectionText, sectionLine, sectionLines, listing}
 use Rattle.cbf_format.proofs.LineTame.{textLine-short}
-use Rattle.cbf_format.proofs.FileLaws.{passed, took, Took, accepted, sections-most}
+use Rattle.cbf_format.proofs.FileLaws.{passed, took, Took, accepted, few-sections}
 
 -- ---- numbers
 
@@ -88,21 +87,6 @@ names limit at (it ∷ its) st g h = go (it .info) (it .next) (g .0) (λ h. name
 
 pub name-short : (limit : ℕ) (file : List ℕ) (its : Tree) → read limit file ≡ good its → NamesWithin limit (sections 0 its)
 name-short limit file its e = names limit 0 its start (accepted limit file its e .is-good) (omega arith)
-
--- ---- sections
-
-pub sections-count : (at : ℕ) (its : Tree) → length (sections at its) ≡ count its
-unfolding sections count
-sections-count at [] = refl
-sections-count at (it ∷ its) = go (it .info) (sections-count (at + length (it .bytes)) its)
-  where
-    go : (o : Option Section) → length (sections (at + length (it .bytes)) its) ≡ count its
-        → length (addPlaced at o (sections (at + length (it .bytes)) its)) ≡ count (record { bytes = it .bytes; info = o; next = it .next } ∷ its)
-    go none h = h
-    go (some i) h = ap suc h
-
-pub few-sections : (limit : ℕ) (file : List ℕ) (its : Tree) → read limit file ≡ good its → length (sections 0 its) ≤ 512
-few-sections limit file its e = omega (arith, sections-count 0 its, sections-most limit file its (accepted limit file its e))
 
 -- ---- lines: at most 4 numbers of 20 digits, 11 and 3 letters, 5 spaces, the name with one more, and the line end
 

@@ -1,21 +1,26 @@
--- A file with a section replaced reads back, and two replacements in either order give one file. Assumes nothing.
-use mathlib.Core.Path.{_≡_, refl, sym, ap, _∙_}
+-- A file with any of its sections replaced is accepted and reads back, all other bytes are as they were, and one
+-- replacement after another is one replacement. Assumes nothing.
+use mathlib.Core.Path.{_≡_, refl, sym, ap, _∙_, subst}
 use mathlib.Core.Logic.{_≢_}
 use mathlib.Core.Option.{Option, none, some, Option·none-ne-some}
+use mathlib.Core.Bool.{Bool, true, false, cond}
 use mathlib.Core.List.{List, [], _∷_}
-use Prim.Native.Nat.{ℕ, zero, suc, _+_, _≤_, _<_}
-use native.Mathlib.Nat.{add-assoc, zero-add, add-zero}
+use Prim.Native.Nat.{ℕ, zero, suc, _+_, _-_, _≤_, _<_}
+use native.Mathlib.Nat.{not-suc-le-zero, add-assoc, zero-add, add-zero}
 use native.Mathlib.Omega.{arith}
-use lib.Dec.{ltb, leb·suc-suc}
-use lib.ListN.{length, length-append}
+use lib.Dec.{eqb}
+use borrow.Author.Tests.{eqb-true, eq-eqb, ne-eqb}
+use lib.ListN.{length, drop}
 use lib.IntN.{ℤ}
+use Rattle.cbf_walk.specs.Parsers.{hd}
 use Rattle.cbf_walk.specs.Reading.{good, flat}
-use Rattle.cbf_walk.proofs.Good.{Good}
-use Rattle.cbf_walk.proofs.Edits.{nth, startOf, edit, sectionCount as items}
-use Rattle.cbf_walk.specs.Exchange.{exchange, exchangeBoth}
-use Rattle.cbf_walk.proofs.EditLaws.{Plain, Section as Sectional, by-items, nth-in, nth-same, nth-other, start-before}
-use Rattle.cbf_walk.proofs.EditLaws.{start-past, apart, edit-good, edit-comm}
-use Rattle.cbf_walk.proofs.OrderLaws.{SameOutsideBoth, edit-exchange, edits-exchange, edits-outside}
+use Rattle.cbf_walk.specs.Exchange.{Exchange, exchanged}
+use Rattle.cbf_walk.proofs.Sections.{nth, startOf}
+use Rattle.cbf_walk.proofs.SectionLaws.{Plain, Section as Sectional, by-items, span-inside}
+use Rattle.cbf_walk.proofs.Choices.{Chosen, Choice, chosenInfo, rewrite, thenOr, afterOr, andThen, spanOr, chosenSpans}
+use Rattle.cbf_walk.proofs.Choices.{Lawful, SameOutside}
+use Rattle.cbf_walk.proofs.ChoiceLaws.{infoThen, AllLawful, nth-rewrite, rewrite-good, rewrite-then, rewrite-same}
+use Rattle.cbf_walk.proofs.ChoiceLaws.{rewrite-outside, rewrite-file}
 use Rattle.cbf_pixels.specs.Pixels.{packByteOffset}
 use Rattle.cbf_pixels.proofs.Bounds.{packed-bounds}
 use Rattle.cbf_format.specs.declared.Description.{Description}
@@ -23,7 +28,8 @@ use Rattle.cbf_answers.specs.Limits.{fileLimit}
 use Rattle.cbf_format.specs.Sections.{Section}
 use Rattle.cbf_format.specs.Files.{due, step, Tree, read, start as beginning}
 use Rattle.cbf_format.specs.Listing.{Placed, sections, numbered}
-use Rattle.cbf_format.specs.House.{house, replacedFile, replacedBoth}
+use Rattle.cbf_format.specs.House.{houseLines, house, inHouse, replacedFile, NewOctets, only, laterOr, later}
+use Rattle.cbf_format.specs.House.{addExchange, exchanges, replacedSections}
 use Rattle.cbf_format.proofs.FileLaws.{step-tame, accepted, accepts, accepted-spans}
 use Rattle.cbf_format.proofs.VerdictLaws.{Known, known}
 use Rattle.cbf_format.proofs.OctetLaws.{data-at}
@@ -89,8 +95,7 @@ span-at limit (suc n) file its p r e =
     record {
       inside = omega (
         arith,
-        apart (λ (i : Section). i .width) its n (items its) (p .section) (nth-in its n (p .section) (at .0)) (at .0) (accepted-spans limit file its a),
-        start-past its (items its) (omega arith),
+        span-inside (λ (i : Section). i .width) its n (p .section) (at .0) (accepted-spans limit file its a),
         ap length (a .whole),
         at .1,
       );
@@ -104,214 +109,314 @@ packed-fits d frame k e =
     let b = packed-bounds frame in
     record { is-known = k; low = omega (arith, e); high = omega (arith, e); small = omega (arith, e, k .few) }
 
--- ---- the tree of a file with a section replaced
+-- ---- sections in house form with new octets
 
 abbrev width : Section → ℕ
 width i = i .width
 
-abbrev span : List ℕ → Section → List ℕ
-span os i = house (i .description) os
+-- a section in house form with these octets: its span, and what is read of it
+abbrev inForm : List ℕ → Section → List ℕ × Section
+inForm os i = (house (i .description) os, housedSection os i)
 
--- the tree with section n, from 0, in house form with these octets
-abbrev replacedTree : ℕ → List ℕ → Tree → Tree
-replacedTree n os its = edit width (span os) (housedSection os) n its
+abbrev housedOr : Section → Option (List ℕ) → Chosen Section
+housedOr i none = none
+housedOr i (some os) = some (inForm os i)
 
--- a good tree with a section is what its bytes are read as
-tree-read : (limit n : ℕ) (file : List ℕ) (its : Tree) (i : Section) → nth n its ≡ some i → Good (step limit) due
-    beginning its → flat its ≡ file → length file ≤ fileLimit
-    → read limit file ≡ good its
-unfolding flat Good nth
-tree-read limit n file [] i e g w l = absurd (Option·none-ne-some i e)
-tree-read limit n file (it ∷ its) i e g w l =
-    accepts limit file (it ∷ its)
-    (record { is-good = g; whole = w; not-empty = omega (arith, ap length w, g .1, length-append (it .bytes) (flat its)); not-long = l })
+abbrev choice : NewOctets → Choice Section
+choice f n i = housedOr i (f n)
 
-tree-good : (limit n : ℕ) (its : Tree) (i : Section) (os : List ℕ) → 48 ≤ limit → nth n its ≡ some i → Fits (i .description) os
-    → Good (step limit) due beginning its → Good (step limit) due beginning (replacedTree n os its)
-tree-good limit n its i os h e f g = edit-good (step limit) due width (step-tame limit) (span os) (housedSection os)
-    its beginning n i e (house-lawful limit os i h f) g .0
+-- the tree with all sections in house form that have new octets
+abbrev pub replacedTree : NewOctets → Tree → Tree
+replacedTree f its = rewrite width (choice f) 1 its
 
-tree-file : (limit n : ℕ) (file : List ℕ) (its : Tree) (p : Placed) (os : List ℕ) → read limit file ≡ good its → IsAt n its p
-    → flat (replacedTree n os its) ≡ replacedFile file p os
-unfolding replacedFile
-tree-file limit n file its p os r e =
-    let a = accepted limit file its r in
-    edit-exchange width (span os) (housedSection os) its n (p .section) (e .0) (accepted-spans limit file its a)
-    ∙ (λ k. exchange (a .whole k) (e .1 k) (p .section .width) (house (p .section .description) os))
+-- what is then read of a section
+abbrev pub sectionThen : Option (List ℕ) → Section → Section
+sectionThen o i = chosenInfo (housedOr i o) i
 
-replaced-tree : (limit n : ℕ) (file : List ℕ) (its : Tree) (p : Placed) (os : List ℕ) → 48 ≤ limit → read limit file ≡ good its → IsAt n its p
-    → Fits (p .section .description) os → length (replacedFile file p os) ≤ fileLimit → read limit (replacedFile file p os) ≡ good (replacedTree n os its)
-replaced-tree limit n file its p os h r e f l =
-    tree-read limit n (replacedFile file p os) (replacedTree n os its) (housedSection os (p .section))
-    (nth-same width (span os) (housedSection os) its n (p .section) (e .0))
-    (tree-good limit n its (p .section) os h (e .0) f (accepted limit file its r .is-good))
-    (tree-file limit n file its p os r e)
-    l
+-- house form of house form is house form
+pub house-again : (os os′ : List ℕ) (i : Section) → inForm os′ (housedSection os i) ≡ inForm os′ i
+unfolding house houseLines
+house-again os os′ i = refl
 
--- ---- one replacement
+module _ (f : NewOctets) where
+  -- the section that is chosen is in house form
+  form : (n : ℕ) (i : Section) (wv : List ℕ × Section) → choice f n i ≡ some wv
+      → (os : List ℕ) × (f n ≡ some os) × (inForm os i ≡ wv)
+  form n i wv e = go (f n) refl e
+    where
+      go : (o : Option (List ℕ)) → f n ≡ o → housedOr i o ≡ some wv
+          → (os : List ℕ) × (f n ≡ some os) × (inForm os i ≡ wv)
+      go none q e = absurd (Option·none-ne-some wv e)
+      go (some os) q e = (os, q, cc)
 
--- what is read of a file with section n replaced: the section in house form, and every other section as it was
-pub record Replaced (limit n : ℕ) (file : List ℕ) (its : Tree) (p : Placed) (os : List ℕ) : Type 0 where
-  pub tree : Tree
-  pub reads : read limit (replacedFile file p os) ≡ good tree
-  pub new : numbered n (sections 0 tree) ≡ some (record { boundary = p .boundary; section = housedSection os (p .section) })
-  pub others : (m : ℕ) (q : Placed) → m ≢ n → numbered m (sections 0 its) ≡ some q
-      → (q′ : Placed) × (numbered m (sections 0 tree) ≡ some q′) × (q′ .section ≡ q .section) × (m < n → q′ .boundary ≡ q .boundary)
+  again : (n : ℕ) (i : Section) (wv : List ℕ × Section) → choice f n i ≡ some wv
+      → (width (wv .1) ≡ length (wv .0)) × (choice f n (wv .1) ≡ some wv)
+  again n i wv e =
+      let u = form n i wv e in
+      subst (λ (y : List ℕ × Section). (width (y .1) ≡ length (y .0)) × (choice f n (y .1) ≡ some y)) (u .2)
+      (refl, ap (housedOr (housedSection (u .0) i)) (u .1) ∙ ap some (house-again (u .0) (u .0) i))
 
-pub replaced-read : (limit n : ℕ) (file : List ℕ) (its : Tree) (p : Placed) (os : List ℕ) → 48 ≤ limit → read limit file ≡ good its
-    → numbered n (sections 0 its) ≡ some p → Fits (p .section .description) os → length (replacedFile file p os) ≤ fileLimit → Replaced limit n file its p os
-replaced-read limit zero file its p os h r e f l = no-zero its p e
-replaced-read limit (suc n) file its p os h r e f l =
-    let at = numbered-nth n its p e in
-    record {
-      tree = replacedTree n os its;
-      reads = replaced-tree limit n file its p os h r at f l;
-      new =
-          nth-numbered n (replacedTree n os its) (housedSection os (p .section)) (nth-same width (span os) (housedSection os) its n (p .section) (at .0))
-          ∙ (λ k. some (record {
-            boundary = (start-before width (span os) (housedSection os) its n n (omega arith)
-                ∙ at .1) k;
-            section = housedSection os (p .section);
-          }));
-      others = others;
-    }
+  -- the spans that are exchanged are those that are chosen
+  abbrev SpansChosen : Tree → Type 0
+  SpansChosen its = (n at : ℕ) → exchanges f n (sections at its) ≡ chosenSpans width (choice f) n at its
+
+  exchanges-chosen : (its : Tree) → SpansChosen its
+  unfolding sections exchanges chosenSpans
+  exchanges-chosen = by-items SpansChosen (λ n at. refl) (λ it its ih n at. ih n (at + length (it .bytes))) go
+    where
+      go : Sectional SpansChosen
+      go it a its ih n at = (λ k. addExchange p (f n) (ih (suc n) (at + length (it .bytes)) k)) ∙ by (f n) _
+        where
+          p : Placed
+          p = record { boundary = at; section = a }
+
+          by : (o : Option (List ℕ)) (xs : List Exchange) → addExchange p o xs ≡ spanOr width (housedOr a o) at a xs
+          by none xs = refl
+          by (some os) xs = refl
+
+-- the new octets fit their sections
+abbrev pub AllFit : Tree → NewOctets → Type 0
+AllFit its f = (n : ℕ) (p : Placed) (os : List ℕ) → numbered n (sections 0 its) ≡ some p → f n ≡ some os
+    → Fits (p .section .description) os
+
+-- ---- the file
+
+module _ (limit : ℕ) (file : List ℕ) (its : Tree) (reads : read limit file ≡ good its) (f : NewOctets) where
+  abbrev new : List ℕ
+  new = replacedSections file (sections 0 its) f
+
+  pub tree-file : flat (replacedTree f its) ≡ new
+  unfolding replacedSections
+  tree-file =
+      let a = accepted limit file its reads in
+      rewrite-file width (choice f) (again f) its 1 (accepted-spans limit file its a)
+      ∙ (λ k. exchanged 0 (sym (exchanges-chosen f its 1 0) k) (a .whole k))
+
+  -- every byte outside the spans is in its place, and the spans are what they were exchanged for
+  pub outside-same : SameOutside file new 0 (exchanges f 1 (sections 0 its))
+      0 (exchanges f 1 (sections 0 (replacedTree f its)))
+  outside-same =
+      let a = accepted limit file its reads in
+      let x = exchanges-chosen f its 1 0 in
+      let y = exchanges-chosen f (replacedTree f its) 1 0 in
+      coe 0 1 (k. SameOutside (a .whole k) (tree-file k) 0 (sym x k) 0 (sym y k))
+      (rewrite-outside width (choice f) (again f) its 1 (accepted-spans limit file its a))
+
+  -- each section keeps its number
+  pub section-then : (n : ℕ) (p : Placed) → numbered n (sections 0 its) ≡ some p
+      → (q : Placed) × (numbered n (sections 0 (replacedTree f its)) ≡ some q)
+      × (q .section ≡ sectionThen (f n) (p .section))
+  section-then zero p e = no-zero its p e
+  section-then (suc n) p e =
+      let tree = replacedTree f its in
+      let i = sectionThen (f (suc n)) (p .section) in
+      let z : 1 + n ≡ suc n = omega arith in
+      let there : nth n tree ≡ some i =
+      nth-rewrite width (choice f) its 1 n ∙ (λ k. infoThen (choice f) (z k) (numbered-nth n its p e .0 k)) in
+      (record { boundary = startOf n tree; section = i }, nth-numbered n tree i there, refl)
+
+  module _ (wide : 48 ≤ limit) (fit : AllFit its f) where
+    lawful : AllLawful (step limit) due width (step-tame limit) (choice f) 1 its
+    lawful m i wv e q =
+        let u = form f (1 + m) i wv q in
+        let p : Placed = record { boundary = startOf m its; section = i } in
+        let y : suc m ≡ 1 + m = omega arith in
+        subst (Lawful (step limit) width i) (u .2)
+        (house-lawful limit (u .0) i wide (fit (suc m) p (u .0) (nth-numbered m its i e) (ap f y ∙ u .1)))
+
+    -- it is accepted
+    pub replaced-read : length new ≤ fileLimit → read limit new ≡ good (replacedTree f its)
+    replaced-read l =
+        let a = accepted limit file its reads in
+        let g = rewrite-good (step limit) due width (step-tame limit) (choice f) its beginning 1 lawful (a .is-good) in
+        accepts limit new (replacedTree f its)
+        (record {
+          is-good = g .0;
+          whole = tree-file;
+          not-empty = some-byte new file (ap hd (sym tree-file) ∙ g .1 ∙ ap hd (a .whole)) (a .not-empty);
+          not-long = l;
+        })
+      where
+        some-byte : (s t : List ℕ) → hd s ≡ hd t → 0 < length t → 0 < length s
+        some-byte s [] e h = absurd (not-suc-le-zero h)
+        some-byte [] (y ∷ t) e h = absurd (Option·none-ne-some y e)
+        some-byte (x ∷ s) (y ∷ t) e h = omega arith
+
+-- ---- one replacement after another
+
+then-later : (f g : NewOctets) (n : ℕ) (i : Section) → andThen (choice f) (choice g) n i ≡ choice (later f g) n i
+then-later f g n i = go (f n) (g n) refl
   where
-    others : (m : ℕ) (q : Placed) → m ≢ suc n → numbered m (sections 0 its) ≡ some q
-        → (q′ : Placed) × (numbered m (sections 0 (replacedTree n os its)) ≡ some q′) × (q′ .section ≡ q .section) × (m < suc n → q′ .boundary ≡ q .boundary)
-    others zero q d e = no-zero its q e
-    others (suc m) q d e =
-        let at = numbered-nth m its q e in
-        let tree = replacedTree n os its in (
-          record { boundary = startOf m tree; section = q .section },
-          nth-numbered m tree (q .section) (nth-other width (span os) (housedSection os) its m n (λ z. d (ap suc z)) ∙ at .0),
-          refl,
-          λ b. start-before width (span os) (housedSection os) its m n (omega arith) ∙ at .1,
-        )
+    go : (x y : Option (List ℕ)) → g n ≡ y → afterOr (choice g) n i (housedOr i x) ≡ housedOr i (laterOr x y)
+    go none none q = ap (housedOr i) q
+    go none (some os) q = ap (housedOr i) q
+    go (some os) y q = ap (λ (o : Option (List ℕ)). thenOr (inForm os i) (housedOr (housedSection os i) o)) q ∙ by y
+      where
+        by : (y : Option (List ℕ))
+            → thenOr (inForm os i) (housedOr (housedSection os i) y) ≡ housedOr i (laterOr (some os) y)
+        by none = refl
+        by (some os′) = ap some (house-again os os′ i)
 
--- ---- two replacements
+-- is one replacement, in which the later octets of a section count
+pub tree-later : (f g : NewOctets) (its : Tree) → replacedTree g (replacedTree f its) ≡ replacedTree (later f g) its
+tree-later f g its =
+    rewrite-then width (choice f) (choice g) (λ n i wv e. again f n i wv e .0) its 1
+    ∙ rewrite-same width (andThen (choice f) (choice g)) (choice (later f g)) its 1 (λ m i e. then-later f g (1 + m) i)
 
--- a file is read, with a section as number n that is replaced next, which gives the file `both`
-pub record Next (limit n : ℕ) (file : List ℕ) (i : Section) (os both : List ℕ) : Type 0 where
-  pub tree : Tree
-  pub reads : read limit file ≡ good tree
-  pub found : Placed
-  pub is-found : numbered n (sections 0 tree) ≡ some found
-  pub same-section : found .section ≡ i
-  pub gives : replacedFile file found os ≡ both
+pub file-later : (limit : ℕ) (file : List ℕ) (its : Tree) (f g : NewOctets) → read limit file ≡ good its
+    → let new = replacedSections file (sections 0 its) f in
+    read limit new ≡ good (replacedTree f its)
+    → replacedSections new (sections 0 (replacedTree f its)) g ≡ replacedSections file (sections 0 its) (later f g)
+file-later limit file its f g r r′ =
+    let new = replacedSections file (sections 0 its) f in
+    sym (tree-file limit new (replacedTree f its) r′ g) ∙ ap flat (tree-later f g its)
+    ∙ tree-file limit file its r (later f g)
 
--- what is read of the file with two sections replaced: both in house form, and outside their spans what was outside
--- before
-pub record ReadBoth (limit : ℕ) (file : List ℕ) (i : ℕ) (p : Placed) (os : List ℕ) (j : ℕ) (q : Placed) (os′ : List ℕ) : Type 0 where
-  pub tree : Tree
-  pub reads : read limit (replacedBoth file i p os j q os′) ≡ good tree
-  pub first : Placed
-  pub is-first : numbered i (sections 0 tree) ≡ some first
-  pub first-section : first .section ≡ housedSection os (p .section)
-  pub second : Placed
-  pub is-second : numbered j (sections 0 tree) ≡ some second
-  pub second-section : second .section ≡ housedSection os′ (q .section)
-  pub outside-same : SameOutsideBoth (ltb i j) file (p .boundary) (p .section .width) (q .boundary) (q .section .width)
-      (replacedBoth file i p os j q os′) (first .boundary) (first .section .width) (second .boundary) (second .section .width)
+-- ---- new octets of one section, and of two
 
--- two replacements in either order give one file, and what is read of it
-pub record Orders (limit : ℕ) (file : List ℕ) (i : ℕ) (p : Placed) (os : List ℕ) (j : ℕ) (q : Placed) (os′ : List ℕ) : Type 0 where
-  pub first-then : length (replacedFile file p os) ≤ fileLimit → Next limit j (replacedFile file p os) (q .section) os′ (replacedBoth file i p os j q os′)
-  pub second-then : length (replacedFile file q os′) ≤ fileLimit → Next limit i (replacedFile file q os′) (p .section) os (replacedBoth file i p os j q os′)
-  pub read-both : length (replacedBoth file i p os j q os′) ≤ fileLimit → ReadBoth limit file i p os j q os′
+-- new octets that agree from a section on
+pub exchanges-same : (f g : NewOctets) (n : ℕ) (ps : List Placed) → ((k : ℕ) → n ≤ k → f k ≡ g k)
+    → exchanges f n ps ≡ exchanges g n ps
+unfolding exchanges
+exchanges-same f g n [] h = refl
+exchanges-same f g n (p ∷ ps) h =
+    λ k. addExchange p (h n (omega arith) k) (exchanges-same f g (suc n) ps (λ m l. h m (omega arith)) k)
 
--- section n replaced, then section m
-next : (limit n m : ℕ) (file : List ℕ) (its : Tree) (p q : Placed) (os os′ both : List ℕ) → 48 ≤ limit
-    → read limit file ≡ good its → m ≢ n → IsAt n its p → IsAt m its q
-    → Fits (p .section .description) os → flat (replacedTree m os′ (replacedTree n os its)) ≡ both → length (replacedFile file p os) ≤ fileLimit
-    → Next limit (suc m) (replacedFile file p os) (q .section) os′ both
-next limit n m file its p q os os′ both h r d e e′ f w l =
-    let tree = replacedTree n os its in
-    let read-it = replaced-tree limit n file its p os h r e f l in
-    let there = nth-other width (span os) (housedSection os) its m n d ∙ e′ .0 in
-    let found : Placed = record { boundary = startOf m tree; section = q .section } in
-    record {
-      tree = tree;
-      reads = read-it;
-      found = found;
-      is-found = nth-numbered m tree (q .section) there;
-      same-section = refl;
-      gives = sym (tree-file limit m (replacedFile file p os) tree found os′ read-it (there, refl)) ∙ w;
-    }
+pub replaced-same : (file : List ℕ) (ps : List Placed) (f g : NewOctets) → ((n : ℕ) → f n ≡ g n)
+    → replacedSections file ps f ≡ replacedSections file ps g
+unfolding replacedSections
+replaced-same file ps f g h = λ k. exchanged 0 (exchanges-same f g 1 ps (λ m l. h m) k) file
 
-pub orders : (limit : ℕ) (file : List ℕ) (its : Tree) (i : ℕ) (p : Placed) (os : List ℕ) (j : ℕ) (q : Placed)
-    (os′ : List ℕ) → 48 ≤ limit → read limit file ≡ good its
-    → i ≢ j → numbered i (sections 0 its) ≡ some p → numbered j (sections 0 its) ≡ some q
-    → Fits (p .section .description) os → Fits (q .section .description) os′
-    → Orders limit file i p os j q os′
-unfolding replacedBoth
-orders limit file its zero p os j q os′ h r d e e′ f f′ = no-zero its p e
-orders limit file its (suc i) p os zero q os′ h r d e e′ f f′ = no-zero its q e′
-orders limit file its (suc i) p os (suc j) q os′ h r d e e′ f f′ =
-    record {
-      first-then = next limit i j file its p q os os′ both h r (λ z. differ (sym z)) at at′ f (ap flat (sym comm) ∙ whole);
-      second-then = next limit j i file its q p os′ os both h r differ at′ at f′ whole;
-      read-both = λ l. record {
-        tree = tree;
-        reads = tree-read limit i both tree (housedSection os (p .section)) first is-good whole l;
-        first = record { boundary = startOf i tree; section = housedSection os (p .section) };
-        is-first = nth-numbered i tree (housedSection os (p .section)) first;
-        first-section = refl;
-        second = record { boundary = startOf j tree; section = housedSection os′ (q .section) };
-        is-second = nth-numbered j tree (housedSection os′ (q .section)) second;
-        second-section = refl;
-        outside-same = kept;
-      };
-    }
+module _ (f : NewOctets) where
+  -- none of these sections has new octets
+  pub exchanges-none : (ps : List Placed) (n : ℕ) → ((k : ℕ) → n ≤ k → f k ≡ none) → exchanges f n ps ≡ []
+  unfolding exchanges
+  exchanges-none [] n h = refl
+  exchanges-none (p ∷ ps) n h = rw (h n (omega arith)) (exchanges-none ps (suc n) (λ k l. h k (omega arith)))
+
+  -- the first one that has
+  exchanges-first : (ps : List Placed) (n m : ℕ) (p : Placed) (os : List ℕ) → ((k : ℕ) → n ≤ k → k < n + m → f k ≡ none)
+      → f (n + m) ≡ some os → numbered (suc m) ps ≡ some p
+      → exchanges f n ps ≡ inHouse p os ∷ exchanges f (suc (n + m)) (drop (suc m) ps)
+  unfolding exchanges numbered
+  exchanges-first [] n m p os h e q = absurd (Option·none-ne-some p q)
+  exchanges-first (x ∷ ps) n zero p os h e q =
+      let z : n + 0 ≡ n = omega arith in
+      let y : x ≡ p = cc in
+      rw (sym (ap f z) ∙ e, y, z)
+  exchanges-first (x ∷ ps) n (suc m) p os h e q =
+      let z : suc n + m ≡ n + suc m = omega arith in
+      rw (h n (omega arith) (omega arith))
+      (exchanges-first ps (suc n) m p os (λ k l j. h k (omega arith) (omega arith)) (ap f z ∙ e) q
+      ∙ ap (λ (k : ℕ). inHouse p os ∷ exchanges f (suc k) (drop (suc m) ps)) z)
+
+numbered-drop : (m k : ℕ) (ps : List Placed) → numbered (suc k) (drop m ps) ≡ numbered (suc (m + k)) ps
+unfolding numbered
+numbered-drop zero k ps = let z : k ≡ 0 + k = omega arith in ap (λ (j : ℕ). numbered (suc j) ps) z
+numbered-drop (suc m) k [] = refl
+numbered-drop (suc m) k (p ∷ ps) =
+    let z : suc (m + k) ≡ suc m + k = omega arith in
+    numbered-drop m k ps ∙ ap (λ (j : ℕ). numbered (suc j) (p ∷ ps)) z
+
+only-same : (n : ℕ) (os : List ℕ) → only n os n ≡ some os
+only-same n os = rw (eq-eqb n n refl)
+
+pub only-other : (n m : ℕ) (os : List ℕ) → m ≢ n → only n os m ≡ none
+only-other n m os h = rw (ne-eqb m n h)
+
+-- replacing one section is the choice of one
+pub replaced-one : (file : List ℕ) (ps : List Placed) (n : ℕ) (p : Placed) (os : List ℕ) → numbered n ps ≡ some p
+    → replacedSections file ps (only n os) ≡ replacedFile file p os
+unfolding numbered replacedSections replacedFile
+replaced-one file ps zero p os e = absurd (Option·none-ne-some p e)
+replaced-one file ps (suc n) p os e =
+    let z : suc n ≡ 1 + n = omega arith in
+    let f = only (suc n) os in
+    let other : (k : ℕ) → k ≢ suc n → f k ≡ none = λ k. only-other (suc n) k os in
+    let none-more = exchanges-none f (drop (suc n) ps) (suc (1 + n)) (λ k l. other k (λ q. omega arith)) in
+    ap (λ (xs : List Exchange). exchanged 0 xs file)
+    (exchanges-first f ps 1 n p os (λ k l h. other k (λ q. omega arith)) (sym (ap f z) ∙ only-same (suc n) os) e
+    ∙ ap (λ (xs : List Exchange). inHouse p os ∷ xs) none-more)
+
+-- new octets fit where they fit one by one
+pub fit-only : (its : Tree) (n : ℕ) {p : Placed} {os : List ℕ} → numbered n (sections 0 its) ≡ some p
+    → Fits (p .section .description) os → AllFit its (only n os)
+fit-only its n {p} {os} e f m q os′ e′ h = go (eqb m n) refl h
   where
-    differ : i ≢ j
-    differ z = d (ap suc z)
+    go : (b : Bool) → eqb m n ≡ b → cond b (some os) none ≡ some os′ → Fits (q .section .description) os′
+    go true r h =
+        let x : os ≡ os′ = cc in
+        let y : some p ≡ some q = sym e ∙ ap (λ (k : ℕ). numbered k (sections 0 its)) (sym (eqb-true m n r)) ∙ e′ in
+        let z : p ≡ q = cc in
+        coe 0 1 (k. Fits (z k .section .description) (x k)) f
+    go false r h = absurd (Option·none-ne-some os′ h)
 
-    at : IsAt i its p
-    at = numbered-nth i its p e
+pub fit-later : (its : Tree) (f g : NewOctets) → AllFit its f → AllFit its g → AllFit its (later f g)
+fit-later its f g a b n p os e h = go (f n) (g n) refl refl h
+  where
+    go : (x y : Option (List ℕ)) → f n ≡ x → g n ≡ y → laterOr x y ≡ some os → Fits (p .section .description) os
+    go x none q r h = a n p os e (q ∙ h)
+    go x (some os′) q r h = b n p os e (r ∙ h)
 
-    at′ : IsAt j its q
-    at′ = numbered-nth j its q e′
+-- the choice of two
+pub record Two (f : NewOctets) (i : ℕ) (os : List ℕ) (j : ℕ) (os′ : List ℕ) : Type 0 where
+  pub first : f i ≡ some os
+  pub second : f j ≡ some os′
+  pub others : (k : ℕ) → k ≢ i → k ≢ j → f k ≡ none
 
-    both : List ℕ
-    both = replacedBoth file (suc i) p os (suc j) q os′
+module _ (i j : ℕ) (os os′ : List ℕ) (differ : i ≢ j) where
+  pub is-two : Two (later (only i os) (only j os′)) i os j os′
+  is-two = record {
+    first = rw (only-same i os, only-other j i os′ differ);
+    second = rw (only-same j os′);
+    others = λ k a b. rw (only-other i k os a, only-other j k os′ b);
+  }
 
-    tree : Tree
-    tree = replacedTree i os (replacedTree j os′ its)
+  -- whichever is named first
+  pub both-ways : (n : ℕ) → later (only i os) (only j os′) n ≡ later (only j os′) (only i os) n
+  both-ways n = go (eqb n i) (eqb n j) refl refl
+    where
+      go : (b c : Bool) → eqb n i ≡ b → eqb n j ≡ c → let x = cond b (some os) none in
+          let y = cond c (some os′) none in laterOr x y ≡ laterOr y x
+      go true true q r = absurd (differ (sym (eqb-true n i q) ∙ eqb-true n j r))
+      go true false q r = refl
+      go false true q r = refl
+      go false false q r = refl
 
-    comm : tree ≡ replacedTree j os′ (replacedTree i os its)
-    comm = edit-comm width (span os) (housedSection os) (span os′) (housedSection os′) its i j differ
+pub two-swapped : {f : NewOctets} {i j : ℕ} {os os′ : List ℕ} → Two f i os j os′ → Two f j os′ i os
+two-swapped t = record { first = t .second; second = t .first; others = λ k a b. t .others k b a }
 
-    whole : flat tree ≡ both
-    whole =
-        let a = accepted limit file its r in
-        edits-exchange width (span os) (housedSection os) (span os′) (housedSection os′) its i j (p .section)
-        (q .section) differ (at .0) (at′ .0) (accepted-spans limit file its a)
-        ∙ (λ k. exchangeBoth (sym (leb·suc-suc (suc i) j) k) (a .whole k) (at .1 k) (p .section .width)
-        (house (p .section .description) os) (at′ .1 k) (q .section .width)
-        (house (q .section .description) os′))
+-- the spans of the two, in the order of their numbers
+exchanges-two : (f : NewOctets) (ps : List Placed) (i j : ℕ) (p q : Placed) (os os′ : List ℕ) → i < j
+    → Two f i os j os′ → numbered i ps ≡ some p → numbered j ps ≡ some q
+    → exchanges f 1 ps ≡ inHouse p os ∷ inHouse q os′ ∷ []
+unfolding numbered
+exchanges-two f ps zero j p q os os′ l t e e′ = absurd (Option·none-ne-some p e)
+exchanges-two f ps (suc i) zero p q os os′ l t e e′ = absurd (Option·none-ne-some q e′)
+exchanges-two f ps (suc i) (suc j) p q os os′ l t e e′ =
+    let y : 1 + i ≡ suc i = omega arith in
+    let m = j - suc i in
+    let z : suc (1 + i) + m ≡ suc j = omega arith in
+    let w : suc (suc i + m) ≡ suc j = omega arith in
+    let rest = drop (suc i) ps in
+    let first = exchanges-first f ps 1 i p os (λ k a b. t .others k (λ q. omega arith) (λ q. omega arith))
+    (ap f y ∙ t .first) e in
+    let second = exchanges-first f rest (suc (1 + i)) m q os′
+    (λ k a b. t .others k (λ q. omega arith) (λ q. omega arith)) (ap f z ∙ t .second)
+    (numbered-drop (suc i) m ps ∙ ap (λ (k : ℕ). numbered k ps) w ∙ e′) in
+    let no-more = exchanges-none f (drop (suc m) rest) (suc (suc (1 + i) + m))
+    (λ k a. t .others k (λ q. omega arith) (λ q. omega arith)) in
+    first ∙ (λ k. inHouse p os ∷ (second ∙ (λ k. inHouse q os′ ∷ no-more k)) k)
 
-    kept : SameOutsideBoth (ltb (suc i) (suc j)) file (p .boundary) (p .section .width) (q .boundary) (q .section .width)
-        both (startOf i tree) (length (span os (p .section))) (startOf j tree) (length (span os′ (q .section)))
-    kept =
-        let a = accepted limit file its r in
-        let b = leb·suc-suc (suc i) j in
-        coe 0 1
-        (k. SameOutsideBoth (sym b k) (a .whole k) (at .1 k) (p .section .width) (at′ .1 k) (q .section .width)
-        (whole k) (startOf i tree) (length (span os (p .section))) (startOf j tree) (length (span os′ (q .section))))
-        (edits-outside width (span os) (housedSection os) (span os′) (housedSection os′) its i j (p .section) (q .section)
-        differ (at .0) (at′ .0) (accepted-spans limit file its a))
-
-    there : nth i (replacedTree j os′ its) ≡ some (p .section)
-    there = nth-other width (span os′) (housedSection os′) its i j differ ∙ at .0
-
-    first : nth i tree ≡ some (housedSection os (p .section))
-    first = nth-same width (span os) (housedSection os) (replacedTree j os′ its) i (p .section) there
-
-    second : nth j tree ≡ some (housedSection os′ (q .section))
-    second =
-        nth-other width (span os) (housedSection os) (replacedTree j os′ its) j i (λ z. differ (sym z))
-        ∙ nth-same width (span os′) (housedSection os′) its j (q .section) (at′ .0)
-
-    is-good : Good (step limit) due beginning tree
-    is-good = tree-good limit i (replacedTree j os′ its) (p .section) os h there f (tree-good limit j its (q .section)
-        os′ h (at′ .0) f′ (accepted limit file its r .is-good))
+-- and what stands outside them, in the file and in the new one, where they are p′ and q′
+module _ (limit : ℕ) (file : List ℕ) (its : Tree) (reads : read limit file ≡ good its) (f : NewOctets) (i j : ℕ)
+    (os os′ : List ℕ) (below : i < j) (two : Two f i os j os′) where
+  pub two-outside : (p q p′ q′ : Placed) → numbered i (sections 0 its) ≡ some p → numbered j (sections 0 its) ≡ some q
+      → numbered i (sections 0 (replacedTree f its)) ≡ some p′ → numbered j (sections 0 (replacedTree f its)) ≡ some q′
+      → SameOutside file (replacedSections file (sections 0 its) f) 0 (inHouse p os ∷ inHouse q os′ ∷ [])
+      0 (inHouse p′ os ∷ inHouse q′ os′ ∷ [])
+  two-outside p q p′ q′ e e′ n n′ =
+      let old = exchanges-two f (sections 0 its) i j p q os os′ below two e e′ in
+      let new = exchanges-two f (sections 0 (replacedTree f its)) i j p′ q′ os os′ below two n n′ in
+      coe 0 1 (k. SameOutside file (replacedSections file (sections 0 its) f) 0 (old k) 0 (new k))
+      (outside-same limit file its reads f)

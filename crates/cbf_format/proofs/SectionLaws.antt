@@ -24,8 +24,7 @@ use Rattle.cbf_format.specs.Sections.{closing, marker, Data, lastBoundar
 use Rattle.cbf_format.specs.Sections.{binaryData, goodText, base64Data, dataFor, Section, sectionOf, section}
 use Rattle.cbf_answers.specs.Limits.{fileLimit}
 use Rattle.cbf_format.proofs.LineTame.{unadd, line-pos, unoctets, same-eq}
-use Rattle.cbf_format.proofs.SectionTame.{closedWith, binaryOf, text, base64Of, afterText, unclose}
-use Rattle.cbf_format.proofs.SectionTame.{afterHeaders}
+use Rattle.cbf_format.proofs.SectionTame.{closedWith, binaryOf, text, base64Of, afterText, unclose, afterHeaders}
 
 -- w bytes, which are those up to the span's end, then what follows a span: n bytes in all
 pub record Closes (limit : ℕ) (s : List ℕ) (w n : ℕ) : Type 0 where

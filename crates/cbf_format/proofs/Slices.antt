@@ -6,8 +6,11 @@ use native.Mathlib.Omega.{arith}
 use lib.ListN.{length, take, drop}
 use lib.Seq.{slice, take-add, drop-at, length-take-le}
 
-pub slice-take : (l : List ℕ) (at n : ℕ) → at ≤ length l → slice at (at + n) l ≡ take n (drop at l)
+pub slice-take : {A : Type 0} (l : List A) (at n : ℕ) → at ≤ length l → slice at (at + n) l ≡ take n (drop at l)
 slice-take l at n h = ap (drop at) (take-add at n l) ∙ drop-at (take at l) (take n (drop at l)) at (length-take-le at l h)
 
-pub slice-part : (l : List ℕ) (from to : ℕ) → from ≤ to → to ≤ length l → slice from to l ≡ take (to - from) (drop from l)
-slice-part l from to h k = let e : to ≡ from + (to - from) = omega arith in ap (λ (n : ℕ). slice from n l) e ∙ slice-take l from (to - from) (omega arith)
+pub slice-part : {A : Type 0} (l : List A) (from to : ℕ) → from ≤ to → to ≤ length l
+    → slice from to l ≡ take (to - from) (drop from l)
+slice-part l from to h k =
+    let e : to ≡ from + (to - from) = omega arith in
+    ap (λ (n : ℕ). slice from n l) e ∙ slice-take l from (to - from) (omega arith)

@@ -2,15 +2,16 @@
 -- catalogue, listing": "Replacement rewrites the span .., always byte offset, keeping type, ID and dimensions; other
 -- headers go."
 use mathlib.Core.Option.{Option, none, some}
+use mathlib.Core.Bool.{cond}
 use mathlib.Core.List.{List, [], _∷_, _++_}
-use Prim.Native.Nat.{ℕ}
-use lib.Dec.{ltb}
+use Prim.Native.Nat.{ℕ, suc, _+_}
+use lib.Dec.{eqb}
 use lib.ListN.{length}
 use Rattle.cbf_format.specs.Text.{bytes}
 use Rattle.cbf_format.specs.Values.{typeWords}
 use Rattle.cbf_format.specs.declared.Description.{Description}
 use Rattle.cbf_format.specs.Descriptions.{optional}
-use Rattle.cbf_walk.specs.Exchange.{exchange, exchangeBoth}
+use Rattle.cbf_walk.specs.Exchange.{Exchange, exchanged}
 use Rattle.cbf_format.specs.Sections.{opening, closing, marker}
 use Rattle.cbf_format.specs.Listing.{printed, Placed}
 
@@ -48,14 +49,48 @@ unfoldable pub house : Description → List ℕ → List ℕ
 unfolding endedLines houseLines
 house d os = ended opening ++ (endedLines (houseLines (length os) d) ++ (13 ∷ 10 ∷ (marker ++ (os ++ (13 ∷ 10 ∷ closing)))))
 
--- the file with the span of a section exchanged for its house form with these octets
-unfoldable pub replacedFile : List ℕ → Placed → List ℕ → List ℕ
-unfolding exchange
-replacedFile file p os = exchange file (p .boundary) (p .section .width) (house (p .section .description) os)
+-- ---- sections replaced
 
--- the file with the spans of the sections i and j exchanged, each for its house form with these octets
-unfoldable pub replacedBoth : List ℕ → ℕ → Placed → List ℕ → ℕ → Placed → List ℕ → List ℕ
-unfolding exchangeBoth
-replacedBoth file i p os j q os′ =
-    exchangeBoth (ltb i j) file (p .boundary) (p .section .width) (house (p .section .description) os) (q .boundary)
-    (q .section .width) (house (q .section .description) os′)
+-- the span of a section is exchanged for house form with these octets
+abbrev pub inHouse : Placed → List ℕ → Exchange
+inHouse p os =
+    record {
+      from = p .boundary;
+      to = p .boundary + p .section .width;
+      new = house (p .section .description) os;
+    }
+
+-- the file with one section replaced
+unfoldable pub replacedFile : List ℕ → Placed → List ℕ → List ℕ
+unfolding exchanged
+replacedFile file p os = exchanged 0 (inHouse p os ∷ []) file
+
+-- the new octets of some sections, by their numbers
+abbrev pub NewOctets : Type 0
+NewOctets = ℕ → Option (List ℕ)
+
+-- of section n alone
+abbrev pub only : ℕ → List ℕ → NewOctets
+only n os m = cond (eqb m n) (some os) none
+
+-- first f, and then g: the later octets of a section count
+abbrev pub laterOr : Option (List ℕ) → Option (List ℕ) → Option (List ℕ)
+laterOr o none = o
+laterOr o (some os) = some os
+
+abbrev pub later : NewOctets → NewOctets → NewOctets
+later f g n = laterOr (f n) (g n)
+
+abbrev pub addExchange : Placed → Option (List ℕ) → List Exchange → List Exchange
+addExchange p none xs = xs
+addExchange p (some os) xs = inHouse p os ∷ xs
+
+-- of these sections, of which the first has number n, those that have new octets are exchanged
+unfoldable pub exchanges : NewOctets → ℕ → List Placed → List Exchange
+exchanges f n [] = []
+exchanges f n (p ∷ ps) = addExchange p (f n) (exchanges f (suc n) ps)
+
+-- the file with all sections replaced that have new octets
+unfoldable pub replacedSections : List ℕ → List Placed → NewOctets → List ℕ
+unfolding exchanged exchanges
+replacedSections file ps f = exchanged 0 (exchanges f 1 ps) file

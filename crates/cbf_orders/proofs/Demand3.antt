@@ -1,75 +1,44 @@
 -- Demand 3 over the definitions of the calls. Assumes nothing.
-use mathlib.Core.Path.{_≡_, refl, sym, ap, _∙_}
+use mathlib.Core.Path.{_≡_, refl, sym, ap, _∙_, subst}
+use mathlib.Core.Logic.{_≢_}
 use mathlib.Core.Option.{Option, some}
 use mathlib.Core.Bool.{Bool, true, false, cond}
-use mathlib.Core.List.{List}
+use mathlib.Core.List.{List, [], _∷_}
 use Prim.Native.Nat.{ℕ, _≤_}
 use native.Mathlib.Omega.{arith}
 use lib.Dec.{leb, ltb}
-use borrow.Author.Tests.{leb-true, le-leb, lt-leb, eqb-true}
-use lib.ListN.{length, take, drop}
-use lib.Seq.{take-at}
+use borrow.Author.Tests.{leb-true, le-leb, lt-leb, ltb-true, ltb-false, eqb-true}
+use lib.ListN.{length, take}
+use lib.Seq.{slice, take-at}
 use lib.IntN.{ℤ}
 use Rattle.cbf_walk.specs.Reading.{good}
-use Rattle.cbf_walk.proofs.OrderLaws.{SameOutsideBoth}
-use Rattle.cbf_pixels.specs.Pixels.{least, greatest, allWithin, packByteOffset, unpackByteOffset}
+use Rattle.cbf_walk.proofs.Choices.{SameOutside}
+use Rattle.cbf_pixels.specs.Pixels.{least, greatest, allWithin, unpackByteOffset}
 use Rattle.cbf_answers.specs.Answers.{Outcome, gives, refuses, written}
 use Rattle.cbf_pixels.specs.PixelCalls.{isSome, pixelsOf, unpackPixels}
 use Rattle.cbf_answers.specs.Limits.{octetLimit, lineLimit, fileLimit}
 use Rattle.cbf_pixels.proofs.Bounds.{packed-limit}
 use Rattle.cbf_pixels.proofs.Round.{unpack-pack}
-use Rattle.cbf_format.specs.declared.Encoding.the-variants.{Binary}
 use Rattle.cbf_format.specs.declared.Description.{Description}
 use Rattle.cbf_format.specs.Sections.{Section}
 use Rattle.cbf_format.specs.Files.{Tree, read}
 use Rattle.cbf_format.specs.Listing.{Placed, sections, numbered}
+use Rattle.cbf_format.specs.House.{house, inHouse, replacedFile, NewOctets, only, later, replacedSections}
 use Rattle.cbf_format.proofs.HouseSections.{housedSection}
 use Rattle.cbf_format.proofs.LineTame.{and-true}
-use Rattle.cbf_format.proofs.ReplacementLaws.{SpanAt, span-at, packed-fits, Next, Orders, orders}
+use Rattle.cbf_format.proofs.ReplacementLaws.{SpanAt, span-at, packed-fits, replacedTree, sectionThen, section-then}
+use Rattle.cbf_format.proofs.ReplacementLaws.{AllFit, fit-only, fit-later, replaced-read, file-later, only-other}
+use Rattle.cbf_format.proofs.ReplacementLaws.{replaced-one, both-ways, replaced-same, Two, is-two, two-swapped}
+use Rattle.cbf_format.proofs.ReplacementLaws.{two-outside}
 use Rattle.cbf_format.specs.SectionCalls.{value, orMissing, sectionNumbered, frameOf, frameFor, frameOutcome}
 use Rattle.cbf_format.specs.SectionCalls.{framePixels}
 use Rattle.cbf_sections.proofs.SectionCallsLaws.{section-answer}
 use Rattle.cbf_answers.specs.Rooms.{roomFor}
 use Rattle.cbf_format.specs.ReplaceCalls.{frameFits, roomForFile, replacePacked, replaceFitting, replaceOutcome}
 use Rattle.cbf_format.specs.ReplaceCalls.{replacedBy}
-use Rattle.cbf_orders.specs.Orders.{replaceCall, replacementOf, OrderOutcome, secondCall, orderOf}
-use Rattle.cbf_orders.specs.Orders.{secondWritten, Premises, Room, CallSays, SecondSays, ReadsBack}
-use Rattle.cbf_orders.specs.Orders.{SpansKeptFrom, one, both, TwoOrders}
-
--- ---- one call
-
--- a section of an accepted file, with a frame that fits it
-pub record Fitting (file : List ℕ) (n : ℕ) (p : Placed) (frame : List ℤ) : Type 0 where
-  pub tree : Tree
-  pub accepted : read lineLimit file ≡ good tree
-  pub is-at : numbered n (sections 0 tree) ≡ some p
-  pub binary : p .section .description .encoding ≡ Binary
-  pub fits : frameFits (p .section .description) frame ≡ true
-
-pub counted : (d : Description) (frame : List ℤ) → frameFits d frame ≡ true → (length frame ≡ d .elements)
-    × (allWithin (least (d .kind)) (greatest (d .kind)) frame ≡ true)
-unfolding frameFits
-counted d frame e = let a = and-true _ (allWithin (least (d .kind)) (greatest (d .kind)) frame) e in (eqb-true (length frame) (d .elements) (a .0), a .1)
-
-module _ {file : List ℕ} {n : ℕ} {p : Placed} {frame : List ℤ} (c : Fitting file n p frame) where
-  here : sectionNumbered (read lineLimit file) n ≡ value p
-  here = ap (λ (r : _). sectionNumbered r n) (c .accepted) ∙ ap orMissing (c .is-at)
-
-  known : SpanAt file p
-  known = span-at lineLimit n file (c .tree) p (c .accepted) (c .is-at)
-
-  few : length (packByteOffset frame) ≤ octetLimit
-  few = packed-limit frame (omega (arith, counted (p .section .description) frame (c .fits) .0, known .is-known .few))
-
-  -- 12, 18, 14 and 16 are not given
-  pub call-answer : (room : ℕ) → replaceCall file n frame room ≡ roomForFile (one file p frame) room
-  unfolding replaceOutcome replaceFitting replacePacked
-  call-answer room =
-      section-answer p _ here ∙ rw (c .binary, c .fits, le-leb (length (packByteOffset frame)) octetLimit few) refl
-
-  pub call-file : replacementOf file n frame ≡ one file p frame
-  unfolding replacedBy
-  call-file = rw here refl
+use Rattle.cbf_orders.specs.Orders.{Edit, packed, Call, Calls, Replaces, answered, ReplacesThen, OrderSays}
+use Rattle.cbf_orders.specs.Orders.{Fitting, Premises, Room, CallSays, CallsSay, ReadsBack, spanEnd, SpansKept}
+use Rattle.cbf_orders.specs.Orders.{SpansKeptFrom, at-a, at-b, both, TwoOrders}
 
 -- ---- room, and none
 
@@ -88,175 +57,270 @@ module _ (new old : List ℕ) where
       go true false p q = refl
       go false b p q = refl
 
-  pub call-says : {said : Outcome} {out : List ℕ} → said ≡ roomForFile new (length old) → out
-      ≡ written (roomForFile new (length old)) new old → CallSays new said old out
+-- ---- one call
+
+counted : (d : Description) (frame : List ℤ) → frameFits d frame ≡ true → (length frame ≡ d .elements)
+    × (allWithin (least (d .kind)) (greatest (d .kind)) frame ≡ true)
+unfolding frameFits
+counted d frame e =
+    let a = and-true _ (allWithin (least (d .kind)) (greatest (d .kind)) frame) e in
+    (eqb-true (length frame) (d .elements) (a .0), a .1)
+
+-- a section of an accepted file, with a frame that fits it
+module _ (file : List ℕ) {tree : Tree} {a : Edit} (reads : read lineLimit file ≡ good tree) (c : Fitting tree a) where
+  abbrev d : Description
+  d = c .at .section .description
+
+  here : sectionNumbered (read lineLimit file) (a .number) ≡ value (c .at)
+  here = ap (λ (r : _). sectionNumbered r (a .number)) reads ∙ ap orMissing (c .is-at)
+
+  known : SpanAt file (c .at)
+  known = span-at lineLimit (a .number) file tree (c .at) reads (c .is-at)
+
+  few : length (packed a) ≤ octetLimit
+  few = packed-limit (a .frame) (omega (arith, counted d (a .frame) (c .fits) .0, known .is-known .few))
+
+  fit : AllFit tree (only (a .number) (packed a))
+  fit =
+      fit-only tree (a .number) (c .is-at)
+      (packed-fits d (a .frame) (known .is-known) (counted d (a .frame) (c .fits) .0))
+
+  abbrev new : List ℕ
+  new = replacedFile file (c .at) (packed a)
+
+  -- 12, 18, 14 and 16 are not given
+  answer : (room : ℕ) → replaceOutcome file (read lineLimit file) (a .number) (a .frame) room ≡ roomForFile new room
+  unfolding replaceOutcome replaceFitting replacePacked
+  answer room =
+      section-answer (c .at) _ here ∙ rw (c .binary, c .fits, le-leb (length (packed a)) octetLimit few) refl
+
+  file-is : replacedBy file (read lineLimit file) (a .number) (a .frame) ≡ new
+  unfolding replacedBy
+  file-is = rw here refl
+
+  call-says : {x : Call Outcome} → Replaces file a x → CallSays new x
   unfolding written
-  call-says e q =
-      record {
-        given = λ r. (e ∙ has-room r, q ∙ ap (λ (o : Outcome). written o new old) (has-room r));
-        refused = λ h. (e ∙ no-room h, q ∙ ap (λ (o : Outcome). written o new old) (no-room h));
-      }
+  call-says {x} s = record { given = λ r. says (has-room new old r); refused = λ h. says (no-room new old h) }
+    where
+      old : List ℕ
+      old = x .before
+
+      says : {o : Outcome} → roomForFile new (length old) ≡ o → (x .answer ≡ o) × (x .after ≡ written o new old)
+      says e =
+          let z = s .answers ∙ answer (length old) ∙ e in
+          (z, s .writes ∙ (λ k. written (z k) (file-is k) old))
 
 -- ---- one order
 
--- the section of a file in which another one was replaced
-next-fitting : {file : List ℕ} {n : ℕ} {p : Placed} {frame : List ℤ} {between both : List ℕ} → Fitting file n p frame
-    → (x : Next lineLimit n between (p .section) (packByteOffset frame) both) → Fitting between n (x .found) frame
-next-fitting {n} {frame} {between} c x =
-    record {
-      tree = x .tree;
-      accepted = x .reads;
-      is-at = x .is-found;
-      binary = ap (λ (z : Section). z .description .encoding) (x .same-section) ∙ c .binary;
-      fits = ap (λ (z : Section). frameFits (z .description) frame) (x .same-section) ∙ c .fits;
-    }
+module _ (file : List ℕ) (tree : Tree) (a b : Edit) (reads : read lineLimit file ≡ good tree)
+    (differ : a .number ≢ b .number) (c : Fitting tree a) (d : Fitting tree b) where
+  abbrev f : NewOctets
+  f = only (a .number) (packed a)
 
--- the outcomes of an order, and what is then in its outputs
-module _ (file : List ℕ) (i : ℕ) (f : List ℤ) (p : Placed) (j : ℕ) (g : List ℤ) (q : Placed) (all oi oij : List ℕ)
-    (c : Fitting file i p f) (d : Fitting file j q g)
-    (then : length (one file p f) ≤ fileLimit → Next lineLimit j (one file p f) (q .section) (packByteOffset g) all) where
-  abbrev order : OrderOutcome
-  order = orderOf file i f j g (length oi) (length oij)
+  abbrev g : NewOctets
+  g = only (b .number) (packed b)
 
-  pub first-says : CallSays (one file p f) (order .first) oi (written (replaceCall file i f (length oi)) (replacementOf file i f) oi)
-  first-says =
-      call-says (one file p f) oi (call-answer c (length oi))
-      (λ k. written (call-answer c (length oi) k) (call-file c k) oi)
+  abbrev one : List ℕ
+  one = replacedFile file (c .at) (packed a)
 
-  second-is : (o : Outcome) → replaceCall file i f (length oi) ≡ o
-      → order .second ≡ secondCall o (one file p f) j g (length oij)
-  second-is o e = λ k. secondCall (e k) (call-file c k) j g (length oij)
+  abbrev all : List ℕ
+  all = replacedSections file (sections 0 tree) (later f g)
 
-  pub second-says : SecondSays (one file p f) oi all (order .second) oij (secondWritten (order .second) (replacementOf (replacementOf file i f) j g) oij)
-  second-says =
-      record {
-        made = λ r.
-            let x = then (r .0) in
-            let y = next-fitting d x in
-            let e = second-is (gives (length (one file p f))) (call-answer c (length oi) ∙ has-room (one file p f) oi r) in
-            let a = call-answer y (length oij) ∙ ap (λ (z : List ℕ). roomForFile z (length oij)) (x .gives) in
-            let new : replacementOf (replacementOf file i f) j g ≡ all = ap (λ (z : List ℕ). replacementOf z j g) (call-file c) ∙ call-file y ∙ x .gives in (
-              replaceCall (one file p f) j g (length oij),
-              e,
-              call-says all oij a (λ k. secondWritten ((e ∙ ap some a) k) (new k) oij),
-            );
-        not-made = λ h.
-            let e = second-is (refuses 15 0) (call-answer c (length oi) ∙ no-room (one file p f) oi h) in
-            (e, λ k. secondWritten (e k) (replacementOf (replacementOf file i f) j g) oij);
-      }
+  one-is : replacedSections file (sections 0 tree) f ≡ one
+  one-is = replaced-one file (sections 0 tree) (a .number) (c .at) (packed a) (c .is-at)
+
+  -- the file with a section replaced is read, and has the other section, whose replacement gives the file with both
+  next : length one ≤ fileLimit → (t : Tree) × (read lineLimit one ≡ good t)
+      × (x : Fitting t b) × (replacedFile one (x .at) (packed b) ≡ all)
+  next l =
+      let t = replacedTree f tree in
+      let l′ : length (replacedSections file (sections 0 tree) f) ≤ fileLimit = omega (arith, l, ap length one-is) in
+      let r = replaced-read lineLimit file tree reads f (omega arith) (fit file reads c) l′ in
+      let s = section-then lineLimit file tree reads f (b .number) (d .at) (d .is-at) in
+      let stays = only-other (a .number) (b .number) (packed a) (λ z. differ (sym z)) in
+      let i : s .0 .section ≡ d .at .section =
+      s .2 ∙ ap (λ (o : Option (List ℕ)). sectionThen o (d .at .section)) stays in (
+        t,
+        ap (read lineLimit) (sym one-is) ∙ r,
+        record {
+          at = s .0;
+          is-at = s .1;
+          binary = ap (λ (z : Section). z .description .encoding) i ∙ d .binary;
+          fits = ap (λ (z : Section). frameFits (z .description) (b .frame)) i ∙ d .fits;
+        },
+        sym (replaced-one one (sections 0 t) (b .number) (s .0) (packed b) (s .1))
+            ∙ ap (λ (z : List ℕ). replacedSections z (sections 0 t) g) (sym one-is)
+            ∙ file-later lineLimit file tree f g reads r,
+      )
+
+  calls-say : {x : Calls} → OrderSays file a b x → CallsSay one all x
+  calls-say {x} s = record { first = first; made = made; not-made = λ h. then (first .refused h .0) }
+    where
+      first : CallSays one (x .first)
+      first = call-says file reads c (s .first)
+
+      then : {o : Outcome} → x .first .answer ≡ o → ReplacesThen o (x .first .after) b (x .second)
+      then e = subst (λ (o : Outcome). ReplacesThen o (x .first .after) b (x .second)) e (s .second)
+
+      made : Room one (x .first .before)
+          → (o : Outcome) × (x .second .answer ≡ some o) × CallSays all (answered (x .second) o)
+      made r =
+          let u = first .given r in
+          let m = then (u .0) in
+          let n = next (r .0) in
+          let y = answered (x .second) (m .0) in
+          let front : take (length one) (x .first .after) ≡ one =
+          ap (take (length one)) (u .1) ∙ take-at one _ (length one) refl in
+          let says = call-says one (n .1) (n .2) (subst (λ (z : List ℕ). Replaces z b y) front (m .2)) in
+          (m .0, m .1, subst (λ (z : List ℕ). CallSays z y) (n .3) says)
 
 -- a file that was given is at the front of its output
-given-front : {new′ old′ new : List ℕ} {said : Option Outcome} {old out : List ℕ} → SecondSays new′ old′ new said old out → Room new′ old′ → Room new old
-    → take (length new) out ≡ new
-given-front {new} {old} s r r′ =
-    let m = s .made r in
-    ap (take (length new)) (m .2 .given r′ .1) ∙ take-at new (drop (length new) old) (length new) refl
+given-front : {one all : List ℕ} {x : Calls} → CallsSay one all x → Room one (x .first .before)
+    → Room all (x .second .before) → take (length all) (x .second .after) ≡ all
+given-front {all} s r r′ = ap (take (length all)) (s .made r .2 .given r′ .1) ∙ take-at all _ (length all) refl
 
 -- ---- reading back
 
--- the frame of a section in house form with a frame that fits
-frame-housed : (p : Placed) (frame : List ℤ) (i : Section) → p .section ≡ housedSection (packByteOffset frame) i
-    → frameFits (i .description) frame ≡ true → frameOf p ≡ some frame
-unfolding frameOf unpackPixels
-frame-housed p frame i s f =
-    let c = counted (i .description) frame f in
-    ap (λ (z : Section). let d = z .description in unpackPixels (d .compression) (d .kind) (d .elements) (z .octets)) s
-    ∙ ap (λ (k : ℕ). unpackByteOffset (i .description .kind) k (packByteOffset frame)) (sym (c .0))
-    ∙ unpack-pack (i .description .kind) frame (c .1)
-
 -- a section in house form with a frame that fits unpacks to it
-reads-back : (file : List ℕ) (n : ℕ) (frame : List ℤ) (i : Section) (tree : Tree) (p : Placed) → read lineLimit file
-    ≡ good tree → numbered n (sections 0 tree) ≡ some p
-    → p .section ≡ housedSection (packByteOffset frame) i → frameFits (i .description) frame ≡ true → ReadsBack file n frame
-unfolding frameOutcome framePixels isSome pixelsOf
-reads-back file n frame i tree p r e s f =
-    record {
-      pixels = rw at (ap pixelsOf unpacks);
-      unpacked = λ room h. answer room ∙ rw (le-leb (length frame) room h) refl;
-      too-little = λ room h. answer room ∙ rw (lt-leb (length frame) room h) refl;
-    }
-  where
-    at : sectionNumbered (read lineLimit file) n ≡ value p
-    at = ap (λ (x : _). sectionNumbered x n) r ∙ ap orMissing e
+module _ (file : List ℕ) (a : Edit) (i : Section) (tree : Tree) (p : Placed) (reads : read lineLimit file ≡ good tree)
+    (is-at : numbered (a .number) (sections 0 tree) ≡ some p) (housed : p .section ≡ housedSection (packed a) i)
+    (fits : frameFits (i .description) (a .frame) ≡ true) where
+  at : sectionNumbered (read lineLimit file) (a .number) ≡ value p
+  at = ap (λ (x : _). sectionNumbered x (a .number)) reads ∙ ap orMissing is-at
 
-    count : length frame ≡ i .description .elements
-    count = counted (i .description) frame f .0
+  count : (length (a .frame) ≡ i .description .elements)
+      × (allWithin (least (i .description .kind)) (greatest (i .description .kind)) (a .frame) ≡ true)
+  count = counted (i .description) (a .frame) fits
 
-    unpacks : frameOf p ≡ some frame
-    unpacks = frame-housed p frame i s f
+  abbrev unpacked : Description → List ℕ → Option (List ℤ)
+  unpacked d os = unpackPixels (d .compression) (d .kind) (d .elements) os
 
-    elements : p .section .description .elements ≡ length frame
-    elements = ap (λ (z : Section). z .description .elements) s ∙ sym count
+  unpacks : frameOf p ≡ some (a .frame)
+  unfolding frameOf unpackPixels
+  unpacks =
+      ap (λ (z : Section). unpacked (z .description) (z .octets)) housed
+      ∙ ap (λ (k : ℕ). unpackByteOffset (i .description .kind) k (packed a)) (sym (count .0))
+      ∙ unpack-pack (i .description .kind) (a .frame) (count .1)
 
-    answer : (room : ℕ) → frameOutcome (read lineLimit file) n room ≡ cond (leb (length frame) room) (gives (length frame)) (refuses 15 0)
-    answer room = section-answer p (λ x. frameFor x room) at ∙ rw (unpacks, elements) refl
+  answers : (room : ℕ) → frameOutcome (read lineLimit file) (a .number) room
+      ≡ cond (leb (length (a .frame)) room) (gives (length (a .frame))) (refuses 15 0)
+  unfolding frameOutcome isSome
+  answers room =
+      section-answer p (λ x. frameFor x room) at
+      ∙ rw (unpacks, ap (λ (z : Section). z .description .elements) housed ∙ sym (count .0)) refl
 
--- ---- outside the spans
-
--- what the two exchanges leave as it is, said of the sections
-spans-kept : (b : Bool) (file new : List ℕ) (p q p′ q′ : Placed)
-    → SameOutsideBoth b file (p .boundary) (p .section .width) (q .boundary) (q .section .width)
-    new (p′ .boundary) (p′ .section .width) (q′ .boundary) (q′ .section .width)
-    → SpansKeptFrom b file p q new p′ q′
-spans-kept true file new p q p′ q′ s =
-    record { in-order = s .in-order; new-order = s .new-order; before = s .before; between = s .between; behind = s .behind }
-spans-kept false file new p q p′ q′ s =
-    record { in-order = s .in-order; new-order = s .new-order; before = s .before; between = s .between; behind = s .behind }
+  reads-back : ReadsBack file a
+  unfolding framePixels pixelsOf
+  reads-back = record {
+    pixels = rw at (ap pixelsOf unpacks);
+    unpacked = λ room h. answers room ∙ rw (le-leb (length (a .frame)) room h) refl;
+    too-little = λ room h. answers room ∙ rw (lt-leb (length (a .frame)) room h) refl;
+  }
 
 -- ---- the demand
 
-module _ (file : List ℕ) (i : ℕ) (f : List ℤ) (j : ℕ) (g : List ℤ) (h : Premises file i f j g) where
-  abbrev pub p : Placed
-  p = h .at-i
+module _ (file : List ℕ) (a b : Edit) (h : Premises file a b) where
+  abbrev p : Placed
+  p = at-a file a b h
 
-  abbrev pub q : Placed
-  q = h .at-j
+  abbrev q : Placed
+  q = at-b file a b h
 
-  fitting-i : Fitting file i p f
-  fitting-i = record { tree = h .tree; accepted = h .accepted; is-at = h .is-i; binary = h .binary-i; fits = h .fits-i }
+  abbrev whole : List ℕ
+  whole = both file a b h
 
-  fitting-j : Fitting file j q g
-  fitting-j = record { tree = h .tree; accepted = h .accepted; is-at = h .is-j; binary = h .binary-j; fits = h .fits-j }
+  abbrev fg : NewOctets
+  fg = later (only (a .number) (packed a)) (only (b .number) (packed b))
 
-  either : Orders lineLimit file i p (packByteOffset f) j q (packByteOffset g)
-  either =
-      orders lineLimit file (h .tree) i p (packByteOffset f) j q (packByteOffset g) (omega arith) (h .accepted) (h .different) (h .is-i) (h .is-j)
-      (packed-fits (p .section .description) f (known fitting-i .is-known) (counted (p .section .description) f (h .fits-i) .0))
-      (packed-fits (q .section .description) g (known fitting-j .is-known) (counted (q .section .description) g (h .fits-j) .0))
+  two : Two fg (a .number) (packed a) (b .number) (packed b)
+  two = is-two (a .number) (b .number) (packed a) (packed b) (h .different)
 
-  abbrev all : List ℕ
-  all = both file i p f j q g
+  abbrev tree : Tree
+  tree = replacedTree fg (h .tree)
 
-  pub demand-3 : (oi oij oj oji : List ℕ)
-      → let ij = orderOf file i f j g (length oi) (length oij) in
-      let ji = orderOf file j g i f (length oj) (length oji) in
-      TwoOrders file i f p j g q ij ji
-      oi (written (replaceCall file i f (length oi)) (replacementOf file i f) oi)
-      oij (secondWritten (ij .second) (replacementOf (replacementOf file i f) j g) oij)
-      oj (written (replaceCall file j g (length oj)) (replacementOf file j g) oj)
-      oji (secondWritten (ji .second) (replacementOf (replacementOf file j g) i f) oji)
-  demand-3 oi oij oj oji =
-      let s = second-says file i f p j g q all oi oij fitting-i fitting-j (either .first-then) in
-      let t = second-says file j g q i f p all oj oji fitting-j fitting-i (either .second-then) in
-      record {
-        first-i = first-says file i f p j g q all oi oij fitting-i fitting-j (either .first-then);
-        then-j = s;
-        first-j = first-says file j g q i f p all oj oji fitting-j fitting-i (either .second-then);
-        then-i = t;
-        same-file = λ a b c d. (given-front s a b, given-front t c d);
-        reads-i = λ l. let r = either .read-both l in reads-back all i f (p .section) (r .tree) (r .first) (r .reads)
-            (r .is-first) (r .first-section) (h .fits-i);
-        reads-j = λ l. let r = either .read-both l in reads-back all j g (q .section) (r .tree) (r .second) (r .reads)
-            (r .is-second) (r .second-section) (h .fits-j);
-        outside-kept = λ l.
-            let r = either .read-both l in
-            record {
-              tree = r .tree;
-              accepted = r .reads;
-              new-i = r .first;
-              is-i = r .is-first;
-              new-j = r .second;
-              is-j = r .is-second;
-              kept = spans-kept (ltb i j) file all p q (r .first) (r .second) (r .outside-same);
-            };
+  accepted : length whole ≤ fileLimit → read lineLimit whole ≡ good tree
+  accepted = replaced-read lineLimit file (h .tree) (h .accepted) fg (omega arith)
+      (fit-later (h .tree) _ _ (fit file (h .accepted) (h .fits-a)) (fit file (h .accepted) (h .fits-b)))
+
+  -- the section of an edit
+  housed : {e : Edit} (c : Fitting (h .tree) e) → fg (e .number) ≡ some (packed e)
+      → (x : Placed) × (numbered (e .number) (sections 0 tree) ≡ some x)
+      × (x .section ≡ housedSection (packed e) (c .at .section))
+  housed {e} c s =
+      let t = section-then lineLimit file (h .tree) (h .accepted) fg (e .number) (c .at) (c .is-at) in
+      (t .0, t .1, t .2 ∙ ap (λ (o : Option (List ℕ)). sectionThen o (c .at .section)) s)
+
+  reads : {e : Edit} (c : Fitting (h .tree) e) → fg (e .number) ≡ some (packed e) → length whole ≤ fileLimit
+      → ReadsBack whole e
+  reads {e} c s l =
+      let t = housed c s in reads-back whole e (c .at .section) tree (t .0) (accepted l) (t .1) (t .2) (c .fits)
+
+  abbrev new-p : Placed
+  new-p = housed (h .fits-a) (two .first) .0
+
+  abbrev new-q : Placed
+  new-q = housed (h .fits-b) (two .second) .0
+
+  -- in either order of their numbers
+  abbrev Kept : Bool → Type 0
+  Kept c =
+      (slice (new-p .boundary) (spanEnd new-p) whole ≡ house (p .section .description) (packed a))
+      × (slice (new-q .boundary) (spanEnd new-q) whole ≡ house (q .section .description) (packed b))
+      × SpansKeptFrom c file p q whole new-p new-q
+
+  spans-kept : Kept (ltb (a .number) (b .number))
+  spans-kept = go (ltb (a .number) (b .number)) refl
+    where
+      x : numbered (a .number) (sections 0 tree) ≡ some new-p
+      x = housed (h .fits-a) (two .first) .1
+
+      y : numbered (b .number) (sections 0 tree) ≡ some new-q
+      y = housed (h .fits-b) (two .second) .1
+
+      kept : {x y x′ y′ : Placed} (os os′ : List ℕ)
+          → SameOutside file whole 0 (inHouse x os ∷ inHouse y os′ ∷ []) 0 (inHouse x′ os ∷ inHouse y′ os′ ∷ [])
+          → SpansKept file x y whole x′ y′
+      kept os os′ s = record {
+        in-order = s .1 .0 .in-order;
+        new-order = s .1 .0 .new-order;
+        before = s .0 .same;
+        between = s .1 .0 .same;
+        behind = s .1 .1;
       }
+
+      go : (c : Bool) → ltb (a .number) (b .number) ≡ c → Kept c
+      go true e =
+          let s = two-outside lineLimit file (h .tree) (h .accepted) fg (a .number) (b .number) (packed a) (packed b)
+          (ltb-true (a .number) (b .number) e) two p q new-p new-q (h .fits-a .is-at) (h .fits-b .is-at) x y in
+          (s .0 .is-new, s .1 .0 .is-new, kept (packed a) (packed b) s)
+      go false e =
+          let s = two-outside lineLimit file (h .tree) (h .accepted) fg (b .number) (a .number) (packed b) (packed a)
+          (omega (arith, ltb-false (a .number) (b .number) e, h .different)) (two-swapped two)
+          q p new-q new-p (h .fits-b .is-at) (h .fits-a .is-at) y x in
+          (s .1 .0 .is-new, s .0 .is-new, kept (packed b) (packed a) s)
+
+  pub demand-3 : {ab ba : Calls} → OrderSays file a b ab → OrderSays file b a ba → TwoOrders file a b h ab ba
+  demand-3 {ab} {ba} s t = record {
+    a-then-b = x;
+    b-then-a = y;
+    same-file = λ r r′ z z′. (given-front x r r′, given-front y z z′);
+    reads-a = reads (h .fits-a) (two .first);
+    reads-b = reads (h .fits-b) (two .second);
+    outside-kept = λ l. record {
+      tree = tree;
+      accepted = accepted l;
+      new-a = record { at = new-p; is-at = housed (h .fits-a) (two .first) .1; span = spans-kept .0 };
+      new-b = record { at = new-q; is-at = housed (h .fits-b) (two .second) .1; span = spans-kept .1 };
+      kept = spans-kept .2;
+    };
+  }
+    where
+      x : CallsSay (replacedFile file p (packed a)) whole ab
+      x = calls-say file (h .tree) a b (h .accepted) (h .different) (h .fits-a) (h .fits-b) s
+
+      y : CallsSay (replacedFile file q (packed b)) whole ba
+      y =
+          subst (λ (z : List ℕ). CallsSay (replacedFile file q (packed b)) z ba)
+          (sym (replaced-same file (sections 0 (h .tree)) _ _
+          (both-ways (a .number) (b .number) (packed a) (packed b) (h .different))))
+          (calls-say file (h .tree) b a (h .accepted) (λ z. h .different (sym z)) (h .fits-b) (h .fits-a) t)

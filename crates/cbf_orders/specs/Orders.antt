@@ -18,7 +18,7 @@ use Rattle.cbf_format.specs.declared.Encoding.the-variants.{Binary}
 use Rattle.cbf_answers.specs.Limits.{lineLimit, fileLimit}
 use Rattle.cbf_format.specs.Files.{Tree, read}
 use Rattle.cbf_format.specs.Listing.{Placed, sections, numbered}
-use Rattle.cbf_format.specs.House.{replacedFile, replacedBoth}
+use Rattle.cbf_format.specs.House.{house, replacedFile, only, later, replacedSections}
 use Rattle.cbf_format.specs.SectionCalls.{frameOutcome, framePixels}
 use Rattle.cbf_format.specs.ReplaceCalls.{frameFits, replaceOutcome, replacedBy}
 use Rattle.cbf_orders.specs.declared.Second.{Second}
@@ -27,86 +27,108 @@ use Rattle.cbf_orders.specs.declared.Order.{Order}
 
 -- ---- the calls
 
--- what replacing section n of a file by a frame answers, and the file that it gives
-abbrev pub replaceCall : List ℕ → ℕ → List ℤ → ℕ → Outcome
-replaceCall file n frame room = replaceOutcome file (read lineLimit file) n frame room
+-- a new frame for the section with a number
+pub record Edit : Type 0 where
+  pub number : ℕ
+  pub frame : List ℤ
 
-abbrev pub replacementOf : List ℕ → ℕ → List ℤ → List ℕ
-replacementOf file n frame = replacedBy file (read lineLimit file) n frame
+abbrev pub edit : ℕ → List ℤ → Edit
+edit n frame = record { number = n; frame = frame }
 
--- the outcomes of the two calls of an order; the second call may not be made
-pub record OrderOutcome : Type 0 where
-  pub first : Outcome
-  pub second : Option Outcome
+abbrev pub packed : Edit → List ℕ
+packed a = packByteOffset (a .frame)
+
+-- a call: what it answers, and its lent output before and after it; its room is the output's length
+pub record Call (A : Type 0) : Type 0 where
+  pub answer : A
+  pub before : List ℕ
+  pub after : List ℕ
+
+-- the two calls of an order; the second one may not be made
+pub record Calls : Type 0 where
+  pub first : Call Outcome
+  pub second : Call (Option Outcome)
 
 -- document 01's numbers and values for each case of the enum
 abbrev pub secondOutcome : Second → Option Outcome
 secondOutcome NotMade = none
 secondOutcome (Made a) = some (outcome a)
 
-abbrev pub orderOutcome : Order → OrderOutcome
-orderOutcome o = record { first = outcome (o .first); second = secondOutcome (o .second) }
+-- the calls that gave these answers, with their lent outputs before and after
+abbrev pub calls : Order → List ℕ → List ℕ → List ℕ → List ℕ → Calls
+calls o before after before₂ after₂ =
+    record {
+      first = record { answer = outcome (o .first); before = before; after = after };
+      second = record { answer = secondOutcome (o .second); before = before₂; after = after₂ };
+    }
+
+-- the call of replacing a section's frame in a file: what it answers, and what it writes
+pub record Replaces (file : List ℕ) (a : Edit) (c : Call Outcome) : Type 0 where
+  pub answers : c .answer ≡ replaceOutcome file (read lineLimit file) (a .number) (a .frame) (length (c .before))
+  pub writes : c .after ≡ written (c .answer) (replacedBy file (read lineLimit file) (a .number) (a .frame)) (c .before)
+
+-- a second call with its answer
+abbrev pub answered : Call (Option Outcome) → Outcome → Call Outcome
+answered c o = record { answer = o; before = c .before; after = c .after }
 
 -- "A second call reads what the first wrote, up to the answer's length"; without such an answer it is not made
-abbrev pub secondCall : Outcome → List ℕ → ℕ → List ℤ → ℕ → Option Outcome
-secondCall (gives n) file j g room = some (replaceCall file j g room)
-secondCall (refuses k p) file j g room = none
+abbrev pub ReplacesThen : Outcome → List ℕ → Edit → Call (Option Outcome) → Type 0
+ReplacesThen (gives n) out b c = (o : Outcome) × (c .answer ≡ some o) × Replaces (take n out) b (answered c o)
+ReplacesThen (refuses k p) out b c = (c .answer ≡ none) × (c .after ≡ c .before)
 
-abbrev pub orderOf : List ℕ → ℕ → List ℤ → ℕ → List ℤ → ℕ → ℕ → OrderOutcome
-orderOf file i f j g room room′ =
-    let o = replaceCall file i f room in record { first = o; second = secondCall o (replacementOf file i f) j g room′ }
-
--- what is then in the output of the second call
-abbrev pub secondWritten : Option Outcome → List ℕ → List ℕ → List ℕ
-secondWritten none new old = old
-secondWritten (some o) new old = written o new old
-
--- the outcomes of the two calls of an order, and what is then in their outputs, for every input
-pub record OrderSays (file : List ℕ) (i : ℕ) (f : List ℤ) (j : ℕ) (g : List ℤ) (order : OrderOutcome) (oi oi′ oij oij′ : List ℕ) : Type 0 where
-  pub answers : order ≡ orderOf file i f j g (length oi) (length oij)
-  pub first-output : oi′ ≡ written (replaceCall file i f (length oi)) (replacementOf file i f) oi
-  pub second-output : oij′ ≡ secondWritten (orderOf file i f j g (length oi) (length oij) .second) (replacementOf (replacementOf file i f) j g) oij
+-- one edit, and then the other, for every input
+pub record OrderSays (file : List ℕ) (a b : Edit) (c : Calls) : Type 0 where
+  pub first : Replaces file a (c .first)
+  pub second : ReplacesThen (c .first .answer) (c .first .after) b (c .second)
 
 -- ---- the premises
 
--- "Accepted: reading gives no refusal. Fits: as many pixels as elements, each inside the integer type."
-pub record Premises (file : List ℕ) (i : ℕ) (f : List ℤ) (j : ℕ) (g : List ℤ) : Type 0 where
+-- a BINARY section with the edit's number, which the frame fits: "as many pixels as elements, each inside the integer
+-- type"
+pub record Fitting (tree : Tree) (a : Edit) : Type 0 where
+  pub at : Placed
+  pub is-at : numbered (a .number) (sections 0 tree) ≡ some at
+  pub binary : at .section .description .encoding ≡ Binary
+  pub fits : frameFits (at .section .description) (a .frame) ≡ true
+
+-- "Accepted: reading gives no refusal"
+pub record Premises (file : List ℕ) (a b : Edit) : Type 0 where
   pub tree : Tree
   pub accepted : read lineLimit file ≡ good tree
-  pub different : i ≢ j
-  pub at-i : Placed
-  pub is-i : numbered i (sections 0 tree) ≡ some at-i
-  pub binary-i : at-i .section .description .encoding ≡ Binary
-  pub fits-i : frameFits (at-i .section .description) f ≡ true
-  pub at-j : Placed
-  pub is-j : numbered j (sections 0 tree) ≡ some at-j
-  pub binary-j : at-j .section .description .encoding ≡ Binary
-  pub fits-j : frameFits (at-j .section .description) g ≡ true
+  pub different : a .number ≢ b .number
+  pub fits-a : Fitting tree a
+  pub fits-b : Fitting tree b
 
 -- ---- the conclusion
 
 -- "A call has room when neither half of 15 holds": the result file is not too long, and the lent output not shorter
 -- than it
 abbrev pub Room : List ℕ → List ℕ → Type 0
-Room new old = (length new ≤ fileLimit) × (length new ≤ length old)
+Room new out = (length new ≤ fileLimit) × (length new ≤ length out)
 
 -- a call that is to give the file `new` gives it where it has room, and the rest of the output stays; it is refused
 -- exactly where it has not, with 15 at 0, and all of the output stays
-pub record CallSays (new : List ℕ) (said : Outcome) (old out : List ℕ) : Type 0 where
-  pub given : Room new old → (said ≡ gives (length new)) × (out ≡ new ++ drop (length new) old)
-  pub refused : (Room new old → ⊥) → (said ≡ refuses 15 0) × (out ≡ old)
+pub record CallSays (new : List ℕ) (c : Call Outcome) : Type 0 where
+  pub given : Room new (c .before)
+      → (c .answer ≡ gives (length new)) × (c .after ≡ new ++ drop (length new) (c .before))
+  pub refused : (Room new (c .before) → ⊥) → (c .answer ≡ refuses 15 0) × (c .after ≡ c .before)
 
--- the second call of an order, whose first call was to give `new′` to `old′`
-pub record SecondSays (new′ old′ new : List ℕ) (said : Option Outcome) (old out : List ℕ) : Type 0 where
-  pub made : Room new′ old′ → (o : Outcome) × (said ≡ some o) × CallSays new o old out
-  pub not-made : (Room new′ old′ → ⊥) → (said ≡ none) × (out ≡ old)
+-- an order whose first call is to give the file `one`, and the second the file `both`
+pub record CallsSay (one both : List ℕ) (c : Calls) : Type 0 where
+  pub first : CallSays one (c .first)
+  pub made : Room one (c .first .before)
+      → (o : Outcome) × (c .second .answer ≡ some o) × CallSays both (answered (c .second) o)
+  pub not-made : (Room one (c .first .before) → ⊥)
+      → (c .second .answer ≡ none) × (c .second .after ≡ c .second .before)
 
 -- "Reads back: the section of the same number has octets that unpack to exactly the frame; unpacking it is refused
 -- for too little pixel room only."
-pub record ReadsBack (file : List ℕ) (n : ℕ) (frame : List ℤ) : Type 0 where
-  pub pixels : framePixels (read lineLimit file) n ≡ frame
-  pub unpacked : (room : ℕ) → length frame ≤ room → frameOutcome (read lineLimit file) n room ≡ gives (length frame)
-  pub too-little : (room : ℕ) → room < length frame → frameOutcome (read lineLimit file) n room ≡ refuses 15 0
+pub record ReadsBack (file : List ℕ) (a : Edit) : Type 0 where
+  pub pixels : framePixels (read lineLimit file) (a .number) ≡ a .frame
+  pub unpacked : (room : ℕ) → length (a .frame) ≤ room
+      → frameOutcome (read lineLimit file) (a .number) room ≡ gives (length (a .frame))
+  pub too-little : (room : ℕ) → room < length (a .frame)
+      → frameOutcome (read lineLimit file) (a .number) room ≡ refuses 15 0
 
 -- the place after the span of a section
 abbrev pub spanEnd : Placed → ℕ
@@ -126,35 +148,44 @@ abbrev pub SpansKeptFrom : Bool → List ℕ → Placed → Placed → List ℕ 
 SpansKeptFrom true file p q new p′ q′ = SpansKept file p q new p′ q′
 SpansKeptFrom false file p q new p′ q′ = SpansKept file q p new q′ p′
 
--- every byte outside the two spans, where they stand in the new file, is the original
-pub record OutsideKept (file : List ℕ) (i : ℕ) (p : Placed) (j : ℕ) (q : Placed) (new : List ℕ) : Type 0 where
-  pub tree : Tree
-  pub accepted : read lineLimit new ≡ good tree
-  pub new-i : Placed
-  pub is-i : numbered i (sections 0 tree) ≡ some new-i
-  pub new-j : Placed
-  pub is-j : numbered j (sections 0 tree) ≡ some new-j
-  pub kept : SpansKeptFrom (ltb i j) file p q new new-i new-j
+-- where the section of an edit is in the new tree; its span is house form with the frame
+pub record NewSection (tree : Tree) (a : Edit) (p : Placed) (new : List ℕ) : Type 0 where
+  pub at : Placed
+  pub is-at : numbered (a .number) (sections 0 tree) ≡ some at
+  pub span : slice (at .boundary) (spanEnd at) new ≡ house (p .section .description) (packed a)
 
--- the file with section i replaced; the one with both: "the original with each of the two spans exchanged for its
--- section's house form with the new frame"
-abbrev pub one : List ℕ → Placed → List ℤ → List ℕ
-one file p f = replacedFile file p (packByteOffset f)
+module _ (file : List ℕ) (a b : Edit) (h : Premises file a b) where
+  abbrev pub at-a : Placed
+  at-a = h .fits-a .at
 
-abbrev pub both : List ℕ → ℕ → Placed → List ℤ → ℕ → Placed → List ℤ → List ℕ
-both file i p f j q g = replacedBoth file i p (packByteOffset f) j q (packByteOffset g)
+  abbrev pub at-b : Placed
+  at-b = h .fits-b .at
 
--- of section i at p with the frame f and section j at q with the frame g: ij and ji are the outcomes of the two
--- orders, and oi, oij, oj, oji the lent outputs of the four calls, with a prime after the calls
-pub record TwoOrders (file : List ℕ) (i : ℕ) (f : List ℤ) (p : Placed) (j : ℕ) (g : List ℤ) (q : Placed)
-    (ij ji : OrderOutcome) (oi oi′ oij oij′ oj oj′ oji oji′ : List ℕ) : Type 0 where
-  pub first-i : CallSays (one file p f) (ij .first) oi oi′
-  pub then-j : SecondSays (one file p f) oi (both file i p f j q g) (ij .second) oij oij′
-  pub first-j : CallSays (one file q g) (ji .first) oj oj′
-  pub then-i : SecondSays (one file q g) oj (both file i p f j q g) (ji .second) oji oji′
-  pub same-file : Room (one file p f) oi → Room (both file i p f j q g) oij → Room (one file q g) oj → Room (both file i p f j q g) oji
-      → (take (length (both file i p f j q g)) oij′ ≡ both file i p f j q g)
-      × (take (length (both file i p f j q g)) oji′ ≡ both file i p f j q g)
-  pub reads-i : length (both file i p f j q g) ≤ fileLimit → ReadsBack (both file i p f j q g) i f
-  pub reads-j : length (both file i p f j q g) ≤ fileLimit → ReadsBack (both file i p f j q g) j g
-  pub outside-kept : length (both file i p f j q g) ≤ fileLimit → OutsideKept file i p j q (both file i p f j q g)
+  -- the new file is accepted, its two spans are house form, and every byte outside them is the original
+  pub record OutsideKept (new : List ℕ) : Type 0 where
+    pub tree : Tree
+    pub accepted : read lineLimit new ≡ good tree
+    pub new-a : NewSection tree a at-a new
+    pub new-b : NewSection tree b at-b new
+    pub kept : SpansKeptFrom (ltb (a .number) (b .number)) file at-a at-b new (new-a .at) (new-b .at)
+
+  -- the file with one section replaced; the one with both: "the original with each of the two spans exchanged for its
+  -- section's house form with the new frame"
+  abbrev pub oneOf : Edit → Placed → List ℕ
+  oneOf e at = replacedFile file at (packed e)
+
+  abbrev pub both : List ℕ
+  both =
+      replacedSections file (sections 0 (h .tree)) (later (only (a .number) (packed a)) (only (b .number) (packed b)))
+
+  -- a first and then b are the calls ab, and b first and then a the calls ba
+  pub record TwoOrders (ab ba : Calls) : Type 0 where
+    pub a-then-b : CallsSay (oneOf a at-a) both ab
+    pub b-then-a : CallsSay (oneOf b at-b) both ba
+    pub same-file :
+        Room (oneOf a at-a) (ab .first .before) → Room both (ab .second .before)
+        → Room (oneOf b at-b) (ba .first .before) → Room both (ba .second .before)
+        → (take (length both) (ab .second .after) ≡ both) × (take (length both) (ba .second .after) ≡ both)
+    pub reads-a : length both ≤ fileLimit → ReadsBack both a
+    pub reads-b : length both ≤ fileLimit → ReadsBack both b
+    pub outside-kept : length both ≤ fileLimit → OutsideKept both

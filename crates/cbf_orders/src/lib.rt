@@ -3,7 +3,7 @@
 // demanded is in specs/.
 use cbf_answers::Answer;
 use cbf_answers::LINE_LIMIT;
-ghost use Rattle.cbf_orders.specs.Orders.{orderOutcome, OrderSays, Premises, TwoOrders};
+ghost use Rattle.cbf_orders.specs.Orders.{edit, calls, OrderSays, Premises, TwoOrders};
 
 // The second call of an order: it is made only where the first gave a file.
 pub enum Second {
@@ -32,8 +32,8 @@ pub fn one_order(
     oi: &mut [u8],
     oij: &mut [u8],
 ) -> Order
-    ensures order { λ r. ⌜ OrderSays (now (file .entry)) i (now (f .entry)) j (now (g .entry)) (orderOutcome r)
-        (now (oi .entry)) (now (oi .exit)) (now (oij .entry)) (now (oij .exit)) ⌝ }
+    ensures order { λ r. ⌜ OrderSays (now (file .entry)) (edit i (now (f .entry))) (edit j (now (g .entry)))
+        (calls r (now (oi .entry)) (now (oi .exit)) (now (oij .entry)) (now (oij .exit))) ⌝ }
 {
     let first = cbf::replace(file, LINE_LIMIT, i, f, oi);
     match first {
@@ -63,14 +63,14 @@ pub fn both_orders(
     oj: &mut [u8],
     oji: &mut [u8],
 ) -> Orders
-    ensures orders { λ r. ⌜ OrderSays (now (file .entry)) i (now (f .entry)) j (now (g .entry))
-        (orderOutcome (r .ij)) (now (oi .entry)) (now (oi .exit)) (now (oij .entry)) (now (oij .exit))
-        × OrderSays (now (file .entry)) j (now (g .entry)) i (now (f .entry)) (orderOutcome (r .ji))
-        (now (oj .entry)) (now (oj .exit)) (now (oji .entry)) (now (oji .exit)) ⌝ }
-    ensures demand_3 { λ r. ⌜ ((h : Premises (now (file .entry)) i (now (f .entry)) j (now (g .entry)))
-        → TwoOrders (now (file .entry)) i (now (f .entry)) (h .at-i) j (now (g .entry)) (h .at-j)
-        (orderOutcome (r .ij)) (orderOutcome (r .ji)) (now (oi .entry)) (now (oi .exit)) (now (oij .entry))
-        (now (oij .exit)) (now (oj .entry)) (now (oj .exit)) (now (oji .entry)) (now (oji .exit))) ⌝ }
+    ensures orders { λ r. ⌜ OrderSays (now (file .entry)) (edit i (now (f .entry))) (edit j (now (g .entry)))
+        (calls (r .ij) (now (oi .entry)) (now (oi .exit)) (now (oij .entry)) (now (oij .exit)))
+        × OrderSays (now (file .entry)) (edit j (now (g .entry))) (edit i (now (f .entry)))
+        (calls (r .ji) (now (oj .entry)) (now (oj .exit)) (now (oji .entry)) (now (oji .exit))) ⌝ }
+    ensures demand_3 { λ r. ⌜ ((h : Premises (now (file .entry)) (edit i (now (f .entry))) (edit j (now (g .entry))))
+        → TwoOrders (now (file .entry)) (edit i (now (f .entry))) (edit j (now (g .entry))) h
+        (calls (r .ij) (now (oi .entry)) (now (oi .exit)) (now (oij .entry)) (now (oij .exit)))
+        (calls (r .ji) (now (oj .entry)) (now (oj .exit)) (now (oji .entry)) (now (oji .exit)))) ⌝ }
 {
     let ij = one_order(file, i, f, j, g, oi, oij);
     let ji = one_order(file, j, g, i, f, oj, oji);

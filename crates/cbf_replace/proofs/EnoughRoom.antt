@@ -1,9 +1,9 @@
 -- Room for as many bytes as the file has, 1,000 more and 15 for each pixel is always enough for replacing: 15 is then
 -- answered only for a new file over the file limit. Assumes nothing.
-use mathlib.Core.Path.{_≡_, refl, ap}
+use mathlib.Core.Path.{_≡_, refl}
 use mathlib.Core.Option.{Option, none, some}
 use mathlib.Core.Bool.{Bool, true, false, cond}
-use mathlib.Core.List.{List, _∷_, _++_}
+use mathlib.Core.List.{List, _++_}
 use Prim.Native.Nat.{ℕ, _+_, _*_, _≤_, _<_}
 use native.Mathlib.Omega.{arith}
 use borrow.Author.Tests.{le-leb, leb-false}
@@ -12,66 +12,31 @@ use lib.IntN.{ℤ}
 use lib.ListN.{length, take, drop, length-append, length-drop}
 use lib.Seq.{length-take-le}
 use Rattle.cbf_walk.specs.Reading.{Item, Reading, refused, good}
-use Rattle.cbf_walk.specs.Exchange.{exchange}
+use Rattle.cbf_walk.specs.Exchange.{exchanged}
 use Rattle.cbf_pixels.specs.Pixels.{packByteOffset}
 use Rattle.cbf_answers.specs.Answers.{Outcome, gives, refuses}
 use Rattle.cbf_answers.specs.Limits.{octetLimit, fileLimit}
 use Rattle.cbf_pixels.proofs.Bounds.{packed-bounds}
 use Rattle.cbf_format.specs.declared.Encoding.{Encoding}
 use Rattle.cbf_format.specs.declared.Encoding.the-variants.{Binary, Base64}
-use Rattle.cbf_format.specs.Text.{bytes}
 use Rattle.cbf_format.specs.declared.Description.{Description}
-use Rattle.cbf_format.specs.Descriptions.{optional}
-use Rattle.cbf_format.specs.Sections.{Section, opening, marker}
+use Rattle.cbf_format.specs.Sections.{Section}
 use Rattle.cbf_format.specs.Files.{State, read}
 use Rattle.cbf_format.specs.Listing.{Placed, sections, numbered}
-use Rattle.cbf_format.specs.House.{ended, endedLines, houseLines, house, replacedFile}
-use Rattle.cbf_format.proofs.ListingLaws.{digits-short}
+use Rattle.cbf_format.specs.House.{house, replacedFile}
 use Rattle.cbf_format.proofs.PlaceLaws.{read-place}
-use Rattle.cbf_format.proofs.HouseSections.{length-house}
 use Rattle.cbf_format.proofs.ReplacementLaws.{SpanAt, span-at}
 use Rattle.cbf_format.specs.SectionCalls.{orMissing, sectionNumbered, sectionOutcome}
 use Rattle.cbf_answers.specs.Rooms.{roomFor}
-use Rattle.cbf_replace.specs.Head.{headText, lineText}
 use Rattle.cbf_format.specs.ReplaceCalls.{frameFits, roomForFile, replacePacked, replaceFitting, replaceFor}
 use Rattle.cbf_format.specs.ReplaceCalls.{replaceOutcome, newFile, replacedBy}
-use Rattle.cbf_replace.proofs.HeadLaws.{no-line, line-length, head-length, type-short}
+use Rattle.cbf_house.proofs.SpanLaws.{house-short}
 
 -- ---- how long the new file is at most
 
-line-short : (name : List ℕ) (n : Option ℕ) → length (lineText name n) ≤ length name + 22
-line-short name none = omega (arith, ap length (no-line name))
-line-short name (some n) = omega (arith, line-length name n, digits-short 20 n)
-
-head-short : (d : Description) (size : ℕ) → length (headText d size) ≤ 533
-head-short d size =
-    omega (
-      arith,
-      head-length d size,
-      type-short (d .kind),
-      digits-short 20 size,
-      digits-short 20 (d .elements),
-      line-short (bytes "X-Binary-ID: ") (optional (d .id)),
-      line-short (bytes "X-Binary-Size-Fastest-Dimension: ") (optional (d .fastest)),
-      line-short (bytes "X-Binary-Size-Second-Dimension: ") (optional (d .second)),
-      line-short (bytes "X-Binary-Size-Third-Dimension: ") (optional (d .third)),
-    )
-
-house-short : (d : Description) (os : List ℕ) → length (house d os) ≤ 566 + length os
-unfolding headText
-house-short d os =
-    let lines = endedLines (houseLines (length os) d) in
-    omega (
-      arith,
-      length-house d os,
-      head-short d (length os),
-      length-append (ended opening) (lines ++ (13 ∷ 10 ∷ marker)),
-      length-append lines (13 ∷ 10 ∷ marker),
-    )
-
 file-short : (file : List ℕ) (p : Placed) (frame : List ℤ) → SpanAt file p
     → length (replacedFile file p (packByteOffset frame)) ≤ length file + 1000 + 15 * length frame
-unfolding replacedFile exchange
+unfolding replacedFile exchanged
 file-short file p frame s =
     let new = house (p .section .description) (packByteOffset frame) in
     let behind = drop (p .boundary + p .section .width) file in
@@ -125,14 +90,17 @@ pub enough-room : (limit : ℕ) (file : List ℕ) (n : ℕ) (frame : List ℤ) (
 unfolding replaceOutcome replacedBy
 enough-room limit file n frame room h = go (read limit file) refl
   where
-    go : (r : Reading (Item State Section)) → read limit file ≡ r → Enough (replacedBy file r n frame) (replaceOutcome file r n frame room)
+    go : (r : Reading (Item State Section)) → read limit file ≡ r
+        → Enough (replacedBy file r n frame) (replaceOutcome file r n frame room)
     go (refused k p) q =
-        another (newFile file (sectionNumbered (refused k p) n) frame) k p (λ z. omega (arith, read-place limit file k p q .1))
+        another (newFile file (sectionNumbered (refused k p) n) frame) k p
+        (λ z. omega (arith, read-place limit file k p q .1))
     go (good its) q = by (numbered n (sections 0 its)) refl
       where
         by : (o : Option Placed) → numbered n (sections 0 its) ≡ o
             → Enough (newFile file (orMissing o) frame) (sectionOutcome (orMissing o) (λ p.
-            let d = p .section .description in replaceFor (d .encoding) d frame (replacedFile file p (packByteOffset frame)) room))
+            let d = p .section .description in
+            replaceFor (d .encoding) d frame (replacedFile file p (packByteOffset frame)) room))
         by none w = another (newFile file (orMissing none) frame) 12 0 (λ z. omega arith)
         by (some p) w =
             let new = replacedFile file p (packByteOffset frame) in

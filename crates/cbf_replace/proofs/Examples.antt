@@ -2,7 +2,7 @@
 use mathlib.Core.Path.{_≡_, refl}
 use mathlib.Core.List.{[], _∷_}
 use lib.IntN.{pos}
-use Rattle.cbf_walk.specs.Exchange.{exchange}
+use Rattle.cbf_walk.specs.Exchange.{exchanged}
 use Rattle.cbf_walk.specs.Reading.{readF}
 use Rattle.cbf_pixels.specs.Pixels.{packByteOffset, packFrom, packDifference, packBy, widths, within, allWithin}
 use Rattle.cbf_answers.specs.Answers.{gives}
@@ -23,14 +23,14 @@ use Rattle.cbf_pixels.specs.Octets as O
 pub sample-replaced : replacedBy sample (read 80 sample) 1 (pos 5 ∷ pos 205 ∷ []) ≡ sample
 unfolding sample read readF step due textLine lineEnd exactly literal semicolonLine headerLine headerLines judge
     verdict headers lastBoundary afterSpan closed binaryData section identified decimalNumber sections numbered
-    house endedLines houseLines digitsOf replacedFile exchange replacedBy packByteOffset packFrom packDifference
+    house endedLines houseLines digitsOf replacedFile exchanged replacedBy packByteOffset packFrom packDifference
     packBy widths O.half O.bits O.octets
 sample-replaced = refl
 
 pub sample-answer : replaceOutcome sample (read 80 sample) 1 (pos 5 ∷ pos 205 ∷ []) 401 ≡ gives 401
 unfolding sample read readF step due textLine lineEnd exactly literal semicolonLine headerLine headerLines judge
     verdict headers lastBoundary afterSpan closed binaryData section identified decimalNumber sections numbered
-    house endedLines houseLines digitsOf replacedFile exchange replaceOutcome replaceFitting replacePacked
+    house endedLines houseLines digitsOf replacedFile exchanged replaceOutcome replaceFitting replacePacked
     roomForFile roomFor frameFits within allWithin packByteOffset packFrom packDifference packBy widths O.half
     O.bits O.octets
 sample-answer = refl

@@ -1,5 +1,4 @@
 -- The laws that the proofs of the functions use.
-pub mod HeadLaws
 pub mod NewFileLaws
 pub mod ReplaceFrameLaws
 pub mod EnoughRoom

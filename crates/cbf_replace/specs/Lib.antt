@@ -1,3 +1,2 @@
--- The head of a section in house form, and the new file: for the contracts of the private functions.
-pub mod Head
+-- The new file: for the contracts of the private functions.
 pub mod NewFile

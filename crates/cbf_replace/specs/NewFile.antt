@@ -1,27 +1,23 @@
--- The new file, from the section of the code: for the contracts of the private functions.
+-- The new file with one section replaced: for the contracts of the private functions.
 use mathlib.Core.Path.{_≡_}
-use mathlib.Core.List.{List, _++_}
+use mathlib.Core.List.{List}
 use Prim.Native.Nat.{ℕ, _≤_}
-use lib.ListN.{length, take, drop}
-use lib.IntN.{ℤ}
-use Rattle.cbf_pixels.specs.Pixels.{packByteOffset}
-use Rattle.cbf_pack.specs.Write.{AllSmall}
-use Rattle.cbf_answers.specs.Limits.{fileLimit, pixelLimit}
-use Rattle.cbf_format.specs.House.{house}
-use Rattle.cbf_format.specs.declared.Section.{Section}
+use lib.ListN.{length}
+use Rattle.cbf_walk.specs.Reading.{good}
+use Rattle.cbf_format.specs.Listing.{sections}
+use Rattle.cbf_format.specs.House.{only, replacedSections}
+use Rattle.cbf_reader.specs.WholeFile.{FoundAt}
+use Rattle.cbf_reader.specs.declared.whole_file.SectionFound.{SectionFound}
+use Rattle.cbf_rewrite.specs.Rewrite.{sectionsOf}
+use Rattle.cbf_format.specs.Files as F
 
--- the file with the span of the section exchanged for house form with these octets
-unfoldable pub fileWith : List ℕ → Section → List ℕ → List ℕ
-fileWith file s os = take (s .from) file ++ (house (s .description) os ++ drop (s .to) file)
+-- the file with the section of a number in house form with these octets
+abbrev pub oneReplaced : ℕ → List ℕ → ℕ → List ℕ → List ℕ
+oneReplaced limit file n os = replacedSections file (sectionsOf (F.read limit file)) (only n os)
 
--- the span of the section is in the file
-pub record SpanIn (file : List ℕ) (s : Section) : Type 0 where
-  pub low : s .from ≤ s .to
-  pub inside : s .to ≤ length file
-  pub short : length file ≤ fileLimit
-  pub few : s .description .elements ≤ pixelLimit
-
--- the packed frame has size octets
-pub record Packed (frame : List ℤ) (size : ℕ) : Type 0 where
-  pub small : AllSmall frame
-  pub counted : size ≡ length (packByteOffset frame)
+-- an accepted file has a section with the number, which was found
+pub record SectionThere (limit : ℕ) (file : List ℕ) (number : ℕ) (f : SectionFound) : Type 0 where
+  pub its : F.Tree
+  pub accepted : F.read limit file ≡ good its
+  pub there : number ≤ length (sections 0 its)
+  pub here : FoundAt limit file number f

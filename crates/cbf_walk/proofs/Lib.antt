@@ -1,9 +1,10 @@
 -- The laws of the definitions in specs/.
 pub mod Tame
 pub mod Good
-pub mod Edits
+pub mod Sections
+pub mod Choices
 pub mod ParserLaws
 pub mod ReadingLaws
 pub mod PlaceLaws
-pub mod EditLaws
-pub mod OrderLaws
+pub mod SectionLaws
+pub mod ChoiceLaws

@@ -95,9 +95,6 @@ module _ {A : Type 0} where
     near = λ b r r′ a′ e h. h;
   }
 
-  pub bad-tame : (k q : ℕ) → Tame {A = A} (λ s. bad k q)
-  bad-tame k q = record { within = λ s a n e. absurd (bad≢ok e); near = λ b r r′ a e h. absurd (bad≢ok h) }
-
   pub cut-tame : Tame {A = A} (λ s. cut)
   cut-tame = record { within = λ s a n e. absurd (cut≢ok e); near = λ b r r′ a e h. absurd (cut≢ok h) }
 
@@ -158,9 +155,6 @@ module _ {A : Type 0} where
     within = λ s a n e. t .within s a n (unblame k (p s) a n e);
     near = λ b r r′ a e h. rw (t .near b r r′ a e (unblame k (p (b ++ r)) a (length b) h));
   }
-
-  pub blame-moves : (k : ℕ) (p : Parser A) → Moves p → Moves (λ s. blame k (p s))
-  blame-moves k p m x xs a n e = m x xs a n (unblame k (p (x ∷ xs)) a n e)
 
   -- ---- a parser that needs a byte
 

@@ -8,12 +8,11 @@ use native.Mathlib.Nat.{not-suc-le-zero}
 use native.Mathlib.Omega.{arith}
 use lib.ListN.{length, take, drop, getD, length-append, length-drop, take-append-drop, drop-of-length-le}
 use lib.Seq.{length-take-le, drop-at, take-at, drop-cons, drop-drop, take-add}
-use Rattle.cbf_walk.specs.Parsers.{Res, bad, cut, ok, Parser, hd}
+use Rattle.cbf_walk.specs.Parsers.{Res, bad, cut, ok, Parser}
 use Rattle.cbf_walk.proofs.Tame.{Tame, Moves}
 use Rattle.cbf_walk.specs.Reading.{Item, Reading, refused, good, cons, flat, late, broke, turn, readF, onto}
 use Rattle.cbf_walk.specs.Reading.{from as fromOf, Reached as ReachedOf}
 use Rattle.cbf_walk.proofs.Good.{Good, itemAt}
-use Rattle.cbf_walk.proofs.ParserLaws.{hd-app}
 
 pub refused≢good : {A : Type 0} {k p : ℕ} {l : List A} → refused k p ≡ good l → ⊥
 refused≢good e = let z : _≡_ {A = ℕ} 0 1 = cc in omega arith
@@ -23,27 +22,6 @@ module _ {St Info : Type 0} where
   unfolding flat
   flat-append [] b = refl
   flat-append (it ∷ a) b = ap (λ (z : List ℕ). it .bytes ++ z) (flat-append a b) ∙ sym (append-assoc (it .bytes) (flat a) (flat b))
-
-  -- the state after items
-  unfoldable pub stateAfter : St → List (Item St Info) → St
-  stateAfter st [] = st
-  stateAfter st (it ∷ its) = stateAfter (it .next) its
-
-module _ {St Info : Type 0} (step : St → Parser (Option Info × St)) (due : St → Option ℕ) where
-  -- good items are good items up to a place, and good items from there
-  pub split : (a b : List (Item St Info)) (st : St) → Good step due st (a ++ b) → Good step due (stateAfter st a) b
-  unfolding Good stateAfter
-  split [] b st g = g
-  split (it ∷ a) b st g = split a b (it .next) (g .2)
-
-  -- the same first items before any other good items that begin with the same byte
-  pub joined : ((st : St) → Tame (step st)) → (a b c : List (Item St Info)) (st : St) → Good step due st (a ++ b) → Good step due (stateAfter st a) c
-      → hd (flat b) ≡ hd (flat c) → Good step due st (a ++ c)
-  unfolding flat Good stateAfter
-  joined tame [] b c st g h e = h
-  joined tame (it ∷ a) b c st g h e =
-      let e′ : hd (flat (a ++ b)) ≡ hd (flat (a ++ c)) = ap hd (flat-append a b) ∙ hd-app (flat a) (flat b) (flat c) e ∙ ap hd (sym (flat-append a c)) in
-      (tame st .near (it .bytes) (flat (a ++ b)) (flat (a ++ c)) (it .info, it .next) e′ (g .0), g .1, joined tame a b c (it .next) (g .2) h e)
 
 module _ {St Info : Type 0} (ended : ℕ) (step : St → Parser (Option Info × St)) (due : St → Option ℕ) where
   abbrev Read : ℕ → ℕ → St → List ℕ → Reading (Item St Info)
@@ -148,13 +126,6 @@ module _ {St Info : Type 0} (ended : ℕ) (step : St → Parser (Option Info × 
               inside none e = absurd (refused≢good e)
               inside (some d) e = absurd (refused≢good e)
           go (ok o n) q ih e = stepped st x xs o n q (Read f (off + n) (o .1) (drop n (x ∷ xs))) (λ is h. ih (off + n) (o .1) (drop n (x ∷ xs)) is h) its e
-
-      -- what an accepted file is read as does not depend on where it starts
-      pub shift : (f off off′ : ℕ) (st : St) (s : List ℕ) (its : List (Item St Info)) → length s ≤ f → readF ended step due f off st s ≡ good its
-          → readF ended step due f off′ st s ≡ good its
-      shift f off off′ st s its h e =
-          let g = sound f off st s its e in
-          subst (λ (z : List ℕ). Read f off′ st z ≡ good its) (g .1) (complete its f off′ st (g .0) (omega (arith, h, ap length (g .1))))
 
 -- ---- what a loop that reads needs: the whole file s, a place `at` in it, and a bound f that is never met
 

@@ -1,21 +1,17 @@
 -- Files with bytes exchanged.
-use mathlib.Core.List.{List, _++_}
-use Prim.Native.Nat.{ℕ, _+_}
-use mathlib.Core.Bool.{Bool, true, false}
-use lib.ListN.{take, drop}
+use mathlib.Core.List.{List, [], _∷_, _++_}
+use Prim.Native.Nat.{ℕ}
+use lib.ListN.{drop}
 use lib.Seq.{slice}
 
--- the file with k bytes at `at` exchanged for `new`
-unfoldable pub exchange : List ℕ → ℕ → ℕ → List ℕ → List ℕ
-exchange file at k new = take at file ++ (new ++ drop (at + k) file)
+-- the bytes of a file from one place up to another, and what they are exchanged for
+pub record Exchange : Type 0 where
+  pub from : ℕ
+  pub to : ℕ
+  pub new : List ℕ
 
--- the file with k bytes at p exchanged for n, and further on k′ bytes at p′ for n′: every other byte is there, in its
--- order
-unfoldable pub exchangeTwo : List ℕ → ℕ → ℕ → List ℕ → ℕ → ℕ → List ℕ → List ℕ
-exchangeTwo file p k n p′ k′ n′ = take p file ++ (n ++ (slice (p + k) p′ file ++ (n′ ++ drop (p′ + k′) file)))
-
--- the same, whichever of the two stands first in the file: `b` says that the first one does
-unfoldable pub exchangeBoth : Bool → List ℕ → ℕ → ℕ → List ℕ → ℕ → ℕ → List ℕ → List ℕ
-unfolding exchangeTwo
-exchangeBoth true file p k n p′ k′ n′ = exchangeTwo file p k n p′ k′ n′
-exchangeBoth false file p k n p′ k′ n′ = exchangeTwo file p′ k′ n′ p k n
+-- the file from the place `at` on, with bytes exchanged that stand in this order and apart: every other byte is there,
+-- in its order
+unfoldable pub exchanged : ℕ → List Exchange → List ℕ → List ℕ
+exchanged at [] file = drop at file
+exchanged at (x ∷ xs) file = slice at (x .from) file ++ (x .new ++ exchanged (x .to) xs file)

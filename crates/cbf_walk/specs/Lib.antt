@@ -1,4 +1,4 @@
--- What a reader must believe: parsers, reading step by step, edits of what was read.
+-- What a reader must believe: parsers, reading step by step, bytes of a file exchanged.
 pub mod Parsers
 pub mod Reading
 pub mod Exchange

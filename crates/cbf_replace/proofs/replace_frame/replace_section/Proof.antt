@@ -1,34 +1,40 @@
 -- `replace_section` meets its contract, by those of `octet_count` and `replace_packed`. Assumes nothing.
 use mathlib.Core.Path.{sym, _∙_}
+use mathlib.Core.List.{List}
+use Prim.Native.Nat.{ℕ}
 use borrow.Author.Needs.{needs}
 use Rattle.cbf_pixels.specs.Pixels.{packByteOffset}
-use Rattle.cbf_replace.specs.NewFile.{fileWith}
+use Rattle.cbf_replace.specs.NewFile.{oneReplaced}
 use Rattle.cbf_replace.proofs.NewFileLaws.{wrong-count, pixel-outside, frame-packed, frame-fits}
 use Rattle.cbf_replace.proofs.replace_frame.replace_section.Statement.{statement}
 use Rattle.cbf_replace.proofs.replace_frame.replace_section.Tie as tie
 
+abbrev new : tie.Start → List ℕ
+new s = let a = s .args in oneReplaced (a .limit) (a .file .now) (a .number) (packByteOffset (a .frame .now))
+
 returns : tie.Need-returns
 returns c =
-    let a = c .before .before .before .before .before .args in
-    let r = wrong-count (a .s .description) (a .frame .now) (fileWith (a .file .now) (a .s)
-    (packByteOffset (a .frame .now))) (a .out .now) (c .before .if1 .taken) in
+    let s = c .before .before .before .before in
+    let a = s .args in
+    let r = wrong-count (a .d) (a .frame .now) (new s) (a .out .now) (c .before .if1 .taken) in
     (c .refused .ensures ∙ r .0, r .1)
 
 replace-packed-requires : tie.Need-replace-packed-requires
 replace-packed-requires c κs =
     let m = c .before .before .before .before in
-    let s = m .before .before .before .before .before in (
-      s .pre,
-      frame-packed (s .args .s .description) (s .args .frame .now) (s .args .out .now) (s .args .out .now)
+    let s = m .before .before .before .before in
+    let a = s .args in (
+      s .pre .0,
+      frame-packed (a .d) (a .frame .now) (new s) (a .out .now)
           (sym (c .before .before .size .given .1) ∙ m .octet-count .ensures),
     )
 
 returns-2 : tie.Need-returns-2
 returns-2 c =
     let m = c .before .before .before in
-    let a = m .before .before .before .before .before .args in
-    let r = pixel-outside (a .s .description) (a .frame .now) (fileWith (a .file .now) (a .s)
-    (packByteOffset (a .frame .now))) (a .out .now) (m .before .if1 .left)
+    let s = m .before .before .before .before in
+    let a = s .args in
+    let r = pixel-outside (a .d) (a .frame .now) (new s) (a .out .now) (m .before .if1 .left)
     (sym (c .before .enum-told .given .1) ∙ m .octet-count .ensures) in
     (c .refused2 .ensures ∙ r .0, r .1)
 
@@ -36,8 +42,9 @@ returns-3 : tie.Need-returns-3
 returns-3 c =
     let p = c .before .before in
     let m = p .before .before .before .before .before in
-    let a = m .before .before .before .before .before .args in
-    frame-fits (a .s .description) (a .frame .now) (fileWith (a .file .now) (a .s) (packByteOffset (a .frame .now))) (a .out .now) (m .before .if1 .left)
+    let s = m .before .before .before .before in
+    let a = s .args in
+    frame-fits (a .d) (a .frame .now) (new s) (a .out .now) (m .before .if1 .left)
     (sym (p .before .before .before .size .given .1) ∙ m .octet-count .ensures)
     (p .replace-packed .ensures)
 

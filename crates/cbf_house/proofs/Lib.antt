@@ -1,0 +1,3 @@
+-- The laws that the proofs of the functions use.
+pub mod HeadLaws
+pub mod SpanLaws
