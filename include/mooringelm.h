@@ -112,14 +112,14 @@ mel_answer mel_catalogue(const uint8_t *file, size_t file_len, uint8_t *out, siz
  * bytes of the copy. Room for file_len + 1,000 + 15 * frame_len bytes is always enough.
  * Refusals, in this order: 1 to 11 for what is wrong in the file, with its place; then, each at 0: 12 for a section
  * number that is 0 or above the count; 18 for a BASE64 section; 14 for a frame of another number of pixels than the
- * section has elements, or a pixel outside the element type; 16 for more than 1,073,741,824 octets, which no frame can
- * reach; 15 for too little room, or for a copy of more than MEL_FILE_LIMIT bytes. */
+ * section has elements, or a pixel outside the element type; 15 for too little room, or for a copy of more than
+ * MEL_FILE_LIMIT bytes. */
 mel_answer mel_replace(const uint8_t *file, size_t file_len, size_t section, const int64_t *frame, size_t frame_len,
                        uint8_t *out, size_t room);
 
 /* Packs pixels by the byte-offset rule. The answer is the number of octets, at least one and at most 15 a pixel.
  * Refusals, each at 0, in this order: 14 for an unknown element type, more than MEL_PIXEL_LIMIT pixels, or a pixel
- * outside its type; 16 for more than 1,073,741,824 octets, which no list of pixels can reach; 15 for too little room. */
+ * outside its type; 15 for too little room. */
 mel_answer mel_pack(uint8_t element_type, const int64_t *pixels, size_t count, uint8_t *out, size_t room);
 
 /* Unpacks count pixels from all of octets. The answer is count.
@@ -128,7 +128,8 @@ mel_answer mel_pack(uint8_t element_type, const int64_t *pixels, size_t count, u
 mel_answer mel_unpack_octets(uint8_t element_type, uint8_t compression, const uint8_t *octets, size_t octets_len,
                              size_t count, int64_t *pixels, size_t room);
 
-/* What a refusal number means, as a short sentence. docs/REFUSALS.md says what usually causes it, and what to do. */
+/* What a refusal number means, as a short sentence. docs/REFUSALS.md says what usually causes it, and what to do. A
+ * number that is withdrawn there is unknown here, and is not used again. */
 static inline const char *mel_refusal_text(uint32_t number)
 {
     switch (number) {
@@ -148,7 +149,6 @@ static inline const char *mel_refusal_text(uint32_t number)
     case 13: return "octets do not unpack";
     case 14: return "wrong number of pixels, or a pixel outside its type";
     case 15: return "too little room, or result file too long";
-    case 16: return "packed frame too long";
     case 17: return "data block name of more than 32 characters";
     case 18: return "section is BASE64, not BINARY";
     default: return "unknown refusal number";

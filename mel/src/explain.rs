@@ -27,7 +27,13 @@ const fn refusal(
     }
 }
 
-const REFUSALS: [Refusal; 18] = [
+/// The greatest number of a refusal.
+const LAST: u32 = 18;
+
+/// The number that no call gives any more.
+const WITHDRAWN: u32 = 16;
+
+const REFUSALS: [Refusal; 17] = [
     refusal(
         1,
         "0",
@@ -138,12 +144,6 @@ const REFUSALS: [Refusal; 18] = [
         "Split the file, and replace the frame in the part.",
     ),
     refusal(
-        16,
-        "0",
-        "A packed frame would have more than 1,073,741,824 octets. It is proved that no frame does.",
-        "Nobody can meet it; if you do, please report it.",
-    ),
-    refusal(
         17,
         "the section's opening boundary",
         "The catalogue has 32 bytes for the name of a data block, and a name in the file is longer.",
@@ -176,32 +176,51 @@ fn paragraph(text: &str) -> String {
     lines.join("\n") + "\n"
 }
 
-fn explained(refusal: &Refusal) -> String {
-    let (number, sentence) = (refusal.number, refusal_text(refusal.number));
+fn withdrawn() -> String {
+    let why = paragraph(
+        "Why: it was for a packed frame of more than 1,073,741,824 octets, and no frame has them. A section \
+         has at most 67,108,864 pixels, and a pixel takes at most 15 octets: 1,006,632,960 in all. That is \
+         proved.",
+    );
+    let remedy = paragraph(
+        "What to do: where a program says refused 16, it is not by this library. Ask whoever made that \
+         program, and send along what it printed.",
+    );
+    format!(
+        "refused {WITHDRAWN}: withdrawn; no call gives it, and it is not used again\n{why}{remedy}"
+    )
+}
+
+/// What is said of a number, where it is one.
+fn explained(number: u32) -> Option<String> {
+    if number == WITHDRAWN {
+        return Some(withdrawn());
+    }
+    let refusal = REFUSALS.iter().find(|r| r.number == number)?;
+    let sentence = refusal_text(number);
     let place = paragraph(&format!("Place: {}.", refusal.place));
     let cause = paragraph(&format!("Usual cause: {}", refusal.cause));
     let remedy = paragraph(&format!("What to do: {}", refusal.remedy));
-    format!("refused {number}: {sentence}\n{place}{cause}{remedy}")
+    Some(format!(
+        "refused {number}: {sentence}\n{place}{cause}{remedy}"
+    ))
 }
 
 pub fn run(args: &Args) -> Result<u8, Trouble> {
-    let chosen: Vec<&Refusal> = match args.operands.first() {
-        None => REFUSALS.iter().collect(),
-        Some(_) => {
-            let found = args.operands.iter().map(|word| {
-                let number = word.to_str().and_then(|word| word.parse::<u32>().ok());
-                let refusal = REFUSALS.iter().find(|r| Some(r.number) == number);
-                refusal.ok_or_else(|| {
-                    args.usage(&format!(
-                        "there is no refusal {}; the numbers are 1 to 18",
-                        shown(word)
-                    ))
-                })
-            });
-            found.collect::<Result<_, _>>()?
-        }
+    let texts: Vec<String> = if args.operands.is_empty() {
+        (1..=LAST).filter_map(explained).collect()
+    } else {
+        let found = args.operands.iter().map(|word| {
+            let number = word.to_str().and_then(|word| word.parse().ok());
+            number.and_then(explained).ok_or_else(|| {
+                args.usage(&format!(
+                    "there is no refusal {}; the numbers are 1 to {LAST}",
+                    shown(word)
+                ))
+            })
+        });
+        found.collect::<Result<_, _>>()?
     };
-    let texts: Vec<String> = chosen.into_iter().map(explained).collect();
     output::text(&texts.join("\n"))?;
     Ok(0)
 }
@@ -212,11 +231,15 @@ mod tests {
 
     #[test]
     fn every_number_has_its_sentence() {
-        for (at, refusal) in REFUSALS.iter().enumerate() {
-            assert_eq!(refusal.number as usize, at + 1);
-            assert_ne!(refusal_text(refusal.number), refusal_text(0));
-            assert!(!refusal_text(refusal.number).contains("unknown"));
+        let numbers: Vec<u32> = REFUSALS.iter().map(|r| r.number).collect();
+        let given: Vec<u32> = (1..=LAST).filter(|&n| n != WITHDRAWN).collect();
+        assert_eq!(numbers, given);
+        for number in given {
+            assert_ne!(refusal_text(number), refusal_text(0));
+            assert!(!refusal_text(number).contains("unknown"));
         }
-        assert!(refusal_text(REFUSALS.len() as u32 + 1).contains("unknown"));
+        for number in [WITHDRAWN, LAST + 1] {
+            assert!(refusal_text(number).contains("unknown"));
+        }
     }
 }

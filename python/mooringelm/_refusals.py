@@ -5,32 +5,31 @@ from __future__ import annotations
 
 from typing import Optional
 
-_TEXTS = (
-    "no refusal",
-    "no CBF identifier in the first line",
-    "text line of more than 80 characters",
-    "byte that is neither printable text nor a tab",
-    "file too long, or more than 512 sections",
-    "header line malformed",
-    "header repeated, with a bad value, or missing",
-    "size, elements and dimensions disagree",
-    "start marker of the octets missing",
-    "data cut short or closing wrong",
-    "BASE64 text wrong",
-    "file ends inside a field",
-    "no section has this number",
-    "octets do not unpack",
-    "wrong number of pixels, or a pixel outside its type",
-    "too little room, or result file too long",
-    "packed frame too long",
-    "data block name of more than 32 characters",
-    "section is BASE64, not BINARY",
-)
+_TEXTS = {
+    0: "no refusal",
+    1: "no CBF identifier in the first line",
+    2: "text line of more than 80 characters",
+    3: "byte that is neither printable text nor a tab",
+    4: "file too long, or more than 512 sections",
+    5: "header line malformed",
+    6: "header repeated, with a bad value, or missing",
+    7: "size, elements and dimensions disagree",
+    8: "start marker of the octets missing",
+    9: "data cut short or closing wrong",
+    10: "BASE64 text wrong",
+    11: "file ends inside a field",
+    12: "no section has this number",
+    13: "octets do not unpack",
+    14: "wrong number of pixels, or a pixel outside its type",
+    15: "too little room, or result file too long",
+    17: "data block name of more than 32 characters",
+    18: "section is BASE64, not BINARY",
+}
 
 
 def refusal_text(number: int) -> str:
     """What a refusal number means, as a short sentence."""
-    return _TEXTS[number] if 0 <= number < len(_TEXTS) else "unknown refusal number"
+    return _TEXTS.get(number, "unknown refusal number")
 
 
 class Refused(Exception):

@@ -23,7 +23,9 @@ HEADER = (ROOT / "include" / "mooringelm.h").read_text()
 def header():
     texts = {int(number): text for number, text in re.findall(r'case (\d+): return "(.*)";', HEADER)}
     equal({number: mooringelm.refusal_text(number) for number in texts}, texts, "sentences")
-    equal([mooringelm.refusal_text(n) for n in (-1, len(texts))], ["unknown refusal number"] * 2, "other numbers")
+    others = {-1, *range(max(texts) + 2)} - set(texts)
+    equal(others, {-1, 16, max(texts) + 1}, "numbers without a sentence")
+    equal({mooringelm.refusal_text(n) for n in others}, {"unknown refusal number"}, "other numbers")
     limits = dict(re.findall(r"#define MEL_(\w+_LIMIT) (\d+)", HEADER))
     equal({name: str(getattr(_library, name)) for name in limits}, limits, "limits")
     functions = re.findall(r"^(mel_\w+) (mel_\w+)\(", HEADER, re.M)

@@ -22,7 +22,7 @@ pub const COMPARED: [(&str, &str, fn() -> usize); 7] = [
     ("files", "on files", files::all),
     (
         "masks",
-        "with masks on two of forty frames and with the longest result",
+        "with masks on two of forty frames, the longest result and the most octets",
         || masks::all() + longest::all(),
     ),
     (

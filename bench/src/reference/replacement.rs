@@ -4,8 +4,6 @@ use super::pixels;
 use super::reader::{Read, Refusal, Section, CLOSING, FILE_LIMIT, MARKER, OPENING};
 use super::sections::numbered;
 
-const OCTET_LIMIT: usize = 1_073_741_824;
-
 /// A part of a file, and what it is exchanged for.
 pub struct Edit {
     pub start: usize,
@@ -63,9 +61,6 @@ pub fn edit(file: &[u8], read: &Read, number: usize, frame: &[i64]) -> Result<Ed
         return Err((14, 0));
     }
     let octets = pixels::pack(section.element_type, frame, usize::MAX)?;
-    if octets.len() > OCTET_LIMIT {
-        return Err((16, 0));
-    }
     let edit = Edit {
         start: section.boundary,
         end: section.end,

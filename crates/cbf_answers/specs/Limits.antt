@@ -12,7 +12,3 @@ fileLimit = 1_073_741_824
 -- "Pixels in a section: at most 67,108,864"
 abbrev pub pixelLimit : ℕ
 pixelLimit = 67_108_864
-
--- 16: of the octets that pixels are packed to, the same as of a file's bytes
-abbrev pub octetLimit : ℕ
-octetLimit = fileLimit

@@ -17,8 +17,9 @@ use Rattle.cbf_capi.specs.declared.Element.{Element}
 use Rattle.cbf_capi.specs.declared.Compressed.{Compressed}
 use Rattle.cbf_pixels.specs.Pixels.{least, greatest, allWithin, packByteOffset}
 use Rattle.cbf_answers.specs.Answers.{Outcome, gives, refuses, written}
+use Rattle.cbf_pixels.proofs.Bounds.{packed-limit}
 use Rattle.cbf_pixels.specs.PixelCalls.{isSome, packOutcome, packOutput, unpackPixels, unpackOutcome, unpackOutput}
-use Rattle.cbf_answers.specs.Limits.{pixelLimit, octetLimit, fileLimit}
+use Rattle.cbf_answers.specs.Limits.{pixelLimit, fileLimit}
 use Rattle.cbf_walk.specs.Reading.{Item, Reading, good}
 use Rattle.cbf_format.specs.declared.Encoding.{Encoding}
 use Rattle.cbf_format.specs.declared.Encoding.the-variants.{Binary, Base64}
@@ -43,8 +44,7 @@ use Rattle.cbf_capi.specs.declared.MelSectionAnswer.{MelSectionAnswer}
 use Rattle.cbf_sections.proofs.SectionCallsLaws.{placeOutcome, place-outcome}
 use Rattle.cbf_answers.specs.Rooms.{roomFor}
 use Rattle.cbf_format.specs.House.{replacedFile}
-use Rattle.cbf_format.specs.ReplaceCalls.{frameFits, roomForFile, replacePacked, replaceFitting, replaceFor}
-use Rattle.cbf_format.specs.ReplaceCalls.{replaceOutcome}
+use Rattle.cbf_format.specs.ReplaceCalls.{frameFits, roomForFile, replaceFitting, replaceFor, replaceOutcome}
 use Rattle.cbf_format.specs.ListCalls.{listOutcome}
 use Rattle.cbf_format.specs.CatalogueCalls.{cataloguedOr, catalogueOutcome}
 use Rattle.cbf_catalogue.proofs.WriteCatalogueLaws.{catalogue-short}
@@ -72,23 +72,6 @@ tested b x number f = picked b x (refuses number 0) (omega arith) f
 given : (n limit : ℕ) → limit < 2 ^ 32 → leb n limit ≡ true → Fits (gives n)
 given n limit h e = omega (arith, leb-true n limit e)
 
-pub pack-fits : (t : ElementType) (ps : List ℤ) (room : ℕ) → Fits (packOutcome t ps room)
-unfolding packOutcome
-pack-fits t ps room =
-    tested (leb (length ps) pixelLimit) _ 14 (λ a.
-    tested (allWithin (least t) (greatest t) ps) _ 14 (λ b.
-    tested (leb (length (packByteOffset ps)) octetLimit) _ 16 (λ c.
-    tested (leb (length (packByteOffset ps)) room) _ 15 (λ d.
-    given (length (packByteOffset ps)) octetLimit (omega arith) c))))
-
-pub unpack-fits : (c : Compression) (t : ElementType) (n : ℕ) (os : List ℕ) (room : ℕ) → Fits (unpackOutcome c t n os room)
-unfolding unpackOutcome
-unpack-fits c t n os room =
-    tested (leb n pixelLimit) _ 13 (λ a.
-    tested (isSome (unpackPixels c t n os)) _ 13 (λ b.
-    tested (leb n room) _ 15 (λ d.
-    given n pixelLimit (omega arith) a)))
-
 -- a text that is short, where there is room for it
 roomed : (text : List ℕ) (room : ℕ) → length text < 2 ^ 32 → Fits (roomFor text room)
 unfolding roomFor
@@ -97,6 +80,21 @@ roomed text room h = go (leb (length text) room)
     go : (b : Bool) → Fits (cond b (gives (length text)) (refuses 15 0))
     go true = h
     go false = omega arith
+
+pub pack-fits : (t : ElementType) (ps : List ℤ) (room : ℕ) → Fits (packOutcome t ps room)
+unfolding packOutcome
+pack-fits t ps room =
+    tested (leb (length ps) pixelLimit) _ 14 (λ a.
+    tested (allWithin (least t) (greatest t) ps) _ 14 (λ b.
+    roomed (packByteOffset ps) room (omega (arith, packed-limit ps (leb-true (length ps) pixelLimit a)))))
+
+pub unpack-fits : (c : Compression) (t : ElementType) (n : ℕ) (os : List ℕ) (room : ℕ) → Fits (unpackOutcome c t n os room)
+unfolding unpackOutcome
+unpack-fits c t n os room =
+    tested (leb n pixelLimit) _ 13 (λ a.
+    tested (isSome (unpackPixels c t n os)) _ 13 (λ b.
+    tested (leb n room) _ 15 (λ d.
+    given n pixelLimit (omega arith) a)))
 
 -- the refusals of reading have places of the file
 unread : (limit : ℕ) (file : List ℕ) (k p : ℕ) → read limit file ≡ R.refused k p → Fits (refuses k p)
@@ -172,16 +170,15 @@ frame-fits limit file n room =
     omega (arith, few-elements d))))
 
 pub replace-fits : (limit : ℕ) (file : List ℕ) (n : ℕ) (frame : List ℤ) (room : ℕ) → Fits (replaceOutcome file (read limit file) n frame room)
-unfolding replaceOutcome replaceFitting replacePacked roomForFile
+unfolding replaceOutcome replaceFitting roomForFile
 replace-fits limit file n frame room = section-fits limit file n _ (λ p d l. go p (p .section .description .encoding))
   where
     go : (p : Placed) (e : Encoding) → Fits (replaceFor e (p .section .description) frame (replacedFile file p (packByteOffset frame)) room)
     go p Binary =
         let new = replacedFile file p (packByteOffset frame) in
         tested (frameFits (p .section .description) frame) _ 14 (λ a.
-        tested (leb (length (packByteOffset frame)) octetLimit) _ 16 (λ b.
-        tested (leb (length new) fileLimit) _ 15 (λ c.
-        roomed new room (omega (arith, leb-true (length new) fileLimit c)))))
+        tested (leb (length new) fileLimit) _ 15 (λ b.
+        roomed new room (omega (arith, leb-true (length new) fileLimit b))))
     go p Base64 = omega arith
 
 -- ---- where the octets of a section are

@@ -1,5 +1,5 @@
--- What replacement answers, by document 01's numbers: reading's refusal, then "12, 18, 14, 16, 15"; and the file that
--- it gives.
+-- What replacement answers, by document 01's numbers: reading's refusal, then 12, 18, 14, 15; and the file that it
+-- gives. Before 15 document 01 has 16, which document 02 (xii) withdraws.
 use mathlib.Core.Bool.{Bool, _&&_, cond}
 use mathlib.Core.List.{List, []}
 use Prim.Native.Nat.{ℕ}
@@ -9,7 +9,7 @@ use lib.IntN.{ℤ}
 use Rattle.cbf_walk.specs.Reading.{Item, Reading}
 use Rattle.cbf_pixels.specs.Pixels.{least, greatest, allWithin, packByteOffset}
 use Rattle.cbf_answers.specs.Answers.{Outcome, refuses, written}
-use Rattle.cbf_answers.specs.Limits.{octetLimit, fileLimit}
+use Rattle.cbf_answers.specs.Limits.{fileLimit}
 use Rattle.cbf_format.specs.declared.Encoding.{Encoding}
 use Rattle.cbf_format.specs.declared.Encoding.the-variants.{Binary, Base64}
 use Rattle.cbf_format.specs.declared.Description.{Description}
@@ -29,15 +29,10 @@ unfoldable pub roomForFile : List ℕ → ℕ → Outcome
 unfolding roomFor
 roomForFile new room = cond (leb (length new) fileLimit) (roomFor new room) (refuses 15 0)
 
--- 16: "packed frame over 1,073,741,824 octets"
-unfoldable pub replacePacked : List ℕ → List ℕ → ℕ → Outcome
-unfolding roomForFile
-replacePacked os new room = cond (leb (length os) octetLimit) (roomForFile new room) (refuses 16 0)
-
 -- 14: "new frame of wrong count .. or a pixel outside the type"
 unfoldable pub replaceFitting : Description → List ℤ → List ℕ → ℕ → Outcome
-unfolding frameFits replacePacked
-replaceFitting d frame new room = cond (frameFits d frame) (replacePacked (packByteOffset frame) new room) (refuses 14 0)
+unfolding frameFits roomForFile
+replaceFitting d frame new room = cond (frameFits d frame) (roomForFile new room) (refuses 14 0)
 
 -- 18: "replacement asked of a BASE64 section"
 abbrev pub replaceFor : Encoding → Description → List ℤ → List ℕ → ℕ → Outcome

@@ -16,8 +16,7 @@ use Rattle.cbf_walk.proofs.Choices.{SameOutside}
 use Rattle.cbf_pixels.specs.Pixels.{least, greatest, allWithin, unpackByteOffset}
 use Rattle.cbf_answers.specs.Answers.{Outcome, gives, refuses, written}
 use Rattle.cbf_pixels.specs.PixelCalls.{isSome, pixelsOf, unpackPixels}
-use Rattle.cbf_answers.specs.Limits.{octetLimit, lineLimit, fileLimit}
-use Rattle.cbf_pixels.proofs.Bounds.{packed-limit}
+use Rattle.cbf_answers.specs.Limits.{lineLimit, fileLimit}
 use Rattle.cbf_pixels.proofs.Round.{unpack-pack}
 use Rattle.cbf_format.specs.declared.Description.{Description}
 use Rattle.cbf_format.specs.Sections.{Section}
@@ -34,8 +33,7 @@ use Rattle.cbf_format.specs.SectionCalls.{value, orMissing, sectionNumbered, fr
 use Rattle.cbf_format.specs.SectionCalls.{framePixels}
 use Rattle.cbf_sections.proofs.SectionCallsLaws.{section-answer}
 use Rattle.cbf_answers.specs.Rooms.{roomFor}
-use Rattle.cbf_format.specs.ReplaceCalls.{frameFits, roomForFile, replacePacked, replaceFitting, replaceOutcome}
-use Rattle.cbf_format.specs.ReplaceCalls.{replacedBy}
+use Rattle.cbf_format.specs.ReplaceCalls.{frameFits, roomForFile, replaceFitting, replaceOutcome, replacedBy}
 use Rattle.cbf_orders.specs.Orders.{Edit, packed, Call, Calls, Replaces, answered, ReplacesThen, OrderSays}
 use Rattle.cbf_orders.specs.Orders.{Fitting, Premises, Room, CallSays, CallsSay, ReadsBack, spanEnd, SpansKept}
 use Rattle.cbf_orders.specs.Orders.{SpansKeptFrom, at-a, at-b, both, TwoOrders}
@@ -77,9 +75,6 @@ module _ (file : List ℕ) {tree : Tree} {a : Edit} (reads : read lineLimit file
   known : SpanAt file (c .at)
   known = span-at lineLimit (a .number) file tree (c .at) reads (c .is-at)
 
-  few : length (packed a) ≤ octetLimit
-  few = packed-limit (a .frame) (omega (arith, counted d (a .frame) (c .fits) .0, known .is-known .few))
-
   fit : AllFit tree (only (a .number) (packed a))
   fit =
       fit-only tree (a .number) (c .is-at)
@@ -88,11 +83,10 @@ module _ (file : List ℕ) {tree : Tree} {a : Edit} (reads : read lineLimit file
   abbrev new : List ℕ
   new = replacedFile file (c .at) (packed a)
 
-  -- 12, 18, 14 and 16 are not given
+  -- 12, 18 and 14 are not given
   answer : (room : ℕ) → replaceOutcome file (read lineLimit file) (a .number) (a .frame) room ≡ roomForFile new room
-  unfolding replaceOutcome replaceFitting replacePacked
-  answer room =
-      section-answer (c .at) _ here ∙ rw (c .binary, c .fits, le-leb (length (packed a)) octetLimit few) refl
+  unfolding replaceOutcome replaceFitting
+  answer room = section-answer (c .at) _ here ∙ rw (c .binary, c .fits) refl
 
   file-is : replacedBy file (read lineLimit file) (a .number) (a .frame) ≡ new
   unfolding replacedBy

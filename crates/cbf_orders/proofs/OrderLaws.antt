@@ -12,7 +12,7 @@ use lib.IntN.{ℤ}
 use Rattle.cbf_walk.specs.Reading.{Item, Reading, refused, good}
 use Rattle.cbf_pixels.specs.Pixels.{packByteOffset}
 use Rattle.cbf_answers.specs.Answers.{Outcome, gives, refuses, written}
-use Rattle.cbf_answers.specs.Limits.{octetLimit, lineLimit, fileLimit}
+use Rattle.cbf_answers.specs.Limits.{lineLimit, fileLimit}
 use Rattle.cbf_answers.specs.Rooms.{roomFor}
 use Rattle.cbf_format.specs.declared.Description.{Description}
 use Rattle.cbf_format.specs.declared.Encoding.{Encoding}
@@ -46,11 +46,9 @@ module _ (frame : List ℤ) (room : ℕ) where
       go false q n e = no-answer 15 0 n e
 
   for : (d : Description) (new : List ℕ) (e : Encoding) → Within room (C.replaceFor e d frame new room)
-  unfolding C.replaceFitting C.replacePacked C.roomForFile
+  unfolding C.replaceFitting C.roomForFile
   for d new Binary =
-      tested (C.frameFits d frame) _ 14
-      (tested (leb (length (packByteOffset frame)) octetLimit) _ 16
-      (tested (leb (length new) fileLimit) _ 15 (roomed new)))
+      tested (C.frameFits d frame) _ 14 (tested (leb (length new) fileLimit) _ 15 (roomed new))
   for d new Base64 = no-answer 18 0
 
   within : (file : List ℕ) (n : ℕ) (r : Reading (Item State Section))

@@ -1,24 +1,26 @@
 -- What packing answers. Assumes nothing.
 use Prim.Native.Nat.{ℕ, _+_, _*_, _<_, _≤_}
 use native.Mathlib.Omega.{arith}
-use mathlib.Core.Path.{_≡_, refl, ap, subst, _∙_}
-use mathlib.Core.List.{List, [], _∷_, _++_}
+use mathlib.Core.Path.{_≡_, refl, sym, subst, _∙_}
+use mathlib.Core.List.{List, [], _∷_}
 use mathlib.Core.Bool.{Bool, true, false, cond}
-use lib.ListN.{length, drop}
-use lib.Seq.{sets, sets-eq}
+use lib.ListN.{length}
+use lib.Seq.{sets}
 use lib.IntN.{ℤ}
 use borrow.Author.Tests.{le-leb, lt-leb}
 use Rattle.cbf_pixels.specs.declared.ElementType.{ElementType}
 use Rattle.cbf_measure.specs.declared.measure.Size.the-variants.{Outside, Octets}
 use Rattle.cbf_pixels.specs.Pixels.{within, allWithin, least, greatest, packByteOffset}
 use Rattle.cbf_answers.specs.Answers.{Outcome, gives, refuses, written}
-use Rattle.cbf_answers.specs.Limits.{pixelLimit, octetLimit}
+use Rattle.cbf_answers.specs.Limits.{pixelLimit}
+use Rattle.cbf_answers.specs.Rooms.{roomFor}
+use Rattle.cbf_answers.proofs.Rooms.{no-room, has-room}
 use Rattle.cbf_pixels.specs.PixelCalls.{packOutcome, packOutput}
 use Rattle.cbf_measure.specs.Measure.{sizeOf}
 use Rattle.cbf_pack.specs.Write.{Small, AllSmall}
 use Rattle.cbf_pixels.proofs.Integers.{cond-left, cond-right, within-small}
 use Rattle.cbf_pixels.proofs.Numbers.{abs-le}
-use Rattle.cbf_pixels.proofs.Bounds.{packed-bounds, packed-limit}
+use Rattle.cbf_pixels.proofs.Bounds.{packed-bounds}
 
 -- ---- packing
 
@@ -62,24 +64,22 @@ module _ (t : ElementType) (ps : List ℤ) (out : List ℕ) where
   pack-outside h e = rw (le-leb (length ps) pixelLimit h, outside e) (refl, refl)
 
   module _ (n : ℕ) (h : length ps ≤ pixelLimit) (e : Octets n ≡ sizeOf t ps) where
-    pub pack-large : octetLimit < n → Packed (refuses 16 0) out
-    unfolding Packed packOutcome packOutput written
-    pack-large l = let s = measured n e in rw (le-leb (length ps) pixelLimit h, s .0, s .1, lt-leb n octetLimit l) (refl, refl)
+    -- 14 is not given
+    answer : packOutcome t ps (length out) ≡ roomFor (packByteOffset ps) (length out)
+    unfolding packOutcome
+    answer = rw (le-leb (length ps) pixelLimit h, measured n e .0) refl
 
-    pub pack-no-room : n ≤ octetLimit → length out < n → Packed (refuses 15 0) out
-    unfolding Packed packOutcome packOutput written
-    pack-no-room l r = let s = measured n e in rw (le-leb (length ps) pixelLimit h, s .0, s .1, le-leb n octetLimit l, lt-leb n (length out) r) (refl, refl)
+    pub pack-no-room : length out < n → Packed (refuses 15 0) out
+    unfolding Packed packOutput
+    pack-no-room = no-room (packByteOffset ps) out answer (sym (measured n e .1))
 
     pub may-write : n ≤ length out → AllSmall ps × (0 + length (packByteOffset ps) ≤ length out)
     may-write r = let s = measured n e in (all-small t ps (s .0), omega (arith, s .1))
 
-    pub pack-done : (out′ : List ℕ) → n ≤ octetLimit → n ≤ length out → out′ ≡ sets out 0 (packByteOffset ps) → Packed (gives n) out′
-    unfolding Packed packOutcome packOutput written
-    pack-done out′ l r q =
-        let s = measured n e in
-        let e : 0 + length (packByteOffset ps) ≡ n = omega (arith, s .1) in
-        rw (le-leb (length ps) pixelLimit h, s .0, s .1, le-leb n octetLimit l, le-leb n (length out) r)
-        (refl, q ∙ sets-eq (packByteOffset ps) out 0 (omega (arith, s .1)) ∙ ap (λ (m : ℕ). packByteOffset ps ++ drop m out) e)
+    pub pack-done : (out′ : List ℕ) → n ≤ length out → out′ ≡ sets out 0 (packByteOffset ps) → Packed (gives n) out′
+    unfolding Packed packOutput
+    pack-done out′ r q =
+        let u = has-room (packByteOffset ps) out answer (sym (measured n e .1)) r in (u .0, q ∙ u .1)
 
   -- where there is room for 15 octets a pixel
   pub ample-size : allWithin (least t) (greatest t) ps ≡ true → Octets (length (packByteOffset ps)) ≡ sizeOf t ps
@@ -94,4 +94,4 @@ module _ (t : ElementType) (ps : List ℤ) (out : List ℕ) where
     ample-done n out′ q w =
         let i : length (packByteOffset ps) ≡ n = omega arith in
         subst (λ (m : ℕ). Packed (gives m) out′) i
-        (pack-done (length (packByteOffset ps)) h (ample-size e) out′ (packed-limit ps h) (omega (arith, packed-bounds ps .1)) w)
+        (pack-done (length (packByteOffset ps)) h (ample-size e) out′ (omega (arith, packed-bounds ps .1)) w)

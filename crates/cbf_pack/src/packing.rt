@@ -1,7 +1,6 @@
 // Packing pixels by the byte-offset rule.
 use crate::write;
 use cbf_answers::Answer;
-use cbf_answers::FILE_LIMIT;
 use cbf_answers::PIXEL_LIMIT;
 use cbf_measure::measure;
 use cbf_measure::measure::Size;
@@ -24,9 +23,6 @@ fn pack_counted(kind: ElementType, pixels: &[i64], out: &mut [u8]) -> Answer
     match size {
         Size::Outside => cbf_answers::refused(14),
         Size::Octets(n) => {
-            if FILE_LIMIT < n {
-                return cbf_answers::refused(16);
-            }
             if out.len() < n {
                 return cbf_answers::refused(15);
             }

@@ -8,7 +8,8 @@ use lib.ListN.{length, length-append}
 use lib.IntN.{ℤ, pos, natAbs, _-ℤ_}
 use Rattle.cbf_pixels.specs.Octets.{half, octets, bits}
 use Rattle.cbf_pixels.specs.Pixels.{packBy, widths, packDifference, packFrom, packByteOffset}
-use Rattle.cbf_answers.specs.Limits.{pixelLimit, octetLimit}
+use Rattle.cbf_answers.specs.Limits.{pixelLimit, fileLimit}
+use Rattle.cbf_answers.proofs.LimitLaws.{octets-limit}
 use Rattle.cbf_pixels.proofs.Numbers.{length-octets}
 
 -- ---- octets enough for all widths do not run out
@@ -46,6 +47,7 @@ pub packed-bounds : (ps : List ℤ) → (length ps ≤ length (packByteOffset ps
 unfolding packByteOffset
 packed-bounds ps = from-bounds (pos 0) ps
 
--- so that no list that may be packed reaches refusal 16
-pub packed-limit : (ps : List ℤ) → length ps ≤ pixelLimit → length (packByteOffset ps) ≤ octetLimit
-packed-limit ps h = omega (arith, packed-bounds ps .1)
+-- so that no list that may be packed, and no frame of a section, has the octets for which 16 was to be given: document 02
+-- (xii) withdraws it
+pub packed-limit : (ps : List ℤ) → length ps ≤ pixelLimit → length (packByteOffset ps) ≤ fileLimit
+packed-limit ps few = octets-limit few (packed-bounds ps .1)

@@ -12,17 +12,16 @@ use Rattle.cbf_pixels.specs.declared.ElementType.{ElementType}
 use Rattle.cbf_pixels.specs.declared.Compression.{Compression}
 use Rattle.cbf_pixels.specs.declared.Compression.the-variants.{Uncompressed, ByteOffset}
 use Rattle.cbf_answers.specs.Answers.{Outcome, gives, refuses, written}
-use Rattle.cbf_answers.specs.Limits.{pixelLimit, octetLimit}
+use Rattle.cbf_answers.specs.Limits.{pixelLimit}
+use Rattle.cbf_answers.specs.Rooms.{roomFor}
 
--- "Packing a list alone: 14 (over the pixel limit, or a pixel outside the type), 16, 15", each at 0
+-- "Packing a list alone: 14 (over the pixel limit, or a pixel outside the type)", then 15, each at 0. Between them
+-- document 01 has 16, which document 02 (xii) withdraws.
 unfoldable pub packOutcome : ElementType → List ℤ → ℕ → Outcome
+unfolding roomFor
 packOutcome t ps room =
     cond (leb (length ps) pixelLimit)
-    (cond (allWithin (least t) (greatest t) ps)
-    (cond (leb (length (packByteOffset ps)) octetLimit)
-    (cond (leb (length (packByteOffset ps)) room) (gives (length (packByteOffset ps))) (refuses 15 0))
-    (refuses 16 0))
-    (refuses 14 0))
+    (cond (allWithin (least t) (greatest t) ps) (roomFor (packByteOffset ps) room) (refuses 14 0))
     (refuses 14 0)
 
 unfoldable pub packOutput : ElementType → List ℤ → List ℕ → List ℕ

@@ -15,7 +15,7 @@ use Rattle.cbf_walk.specs.Reading.{Item, Reading, refused, good}
 use Rattle.cbf_walk.specs.Exchange.{exchanged}
 use Rattle.cbf_pixels.specs.Pixels.{packByteOffset}
 use Rattle.cbf_answers.specs.Answers.{Outcome, gives, refuses}
-use Rattle.cbf_answers.specs.Limits.{octetLimit, fileLimit}
+use Rattle.cbf_answers.specs.Limits.{fileLimit}
 use Rattle.cbf_pixels.proofs.Bounds.{packed-bounds}
 use Rattle.cbf_format.specs.declared.Encoding.{Encoding}
 use Rattle.cbf_format.specs.declared.Encoding.the-variants.{Binary, Base64}
@@ -28,8 +28,8 @@ use Rattle.cbf_format.proofs.PlaceLaws.{read-place}
 use Rattle.cbf_format.proofs.ReplacementLaws.{SpanAt, span-at}
 use Rattle.cbf_format.specs.SectionCalls.{orMissing, sectionNumbered, sectionOutcome}
 use Rattle.cbf_answers.specs.Rooms.{roomFor}
-use Rattle.cbf_format.specs.ReplaceCalls.{frameFits, roomForFile, replacePacked, replaceFitting, replaceFor}
-use Rattle.cbf_format.specs.ReplaceCalls.{replaceOutcome, newFile, replacedBy}
+use Rattle.cbf_format.specs.ReplaceCalls.{frameFits, roomForFile, replaceFitting, replaceFor, replaceOutcome}
+use Rattle.cbf_format.specs.ReplaceCalls.{newFile, replacedBy}
 use Rattle.cbf_house.proofs.SpanLaws.{house-short}
 
 -- ---- how long the new file is at most
@@ -77,10 +77,8 @@ module _ (new : List ℕ) (room : ℕ) (fits : length new ≤ room) where
       go false q e = leb-false (length new) fileLimit q
 
   answer-enough : (c : Encoding) (d : Description) (frame : List ℤ) → Enough new (replaceFor c d frame new room)
-  unfolding replaceFitting replacePacked
-  answer-enough Binary d frame =
-      tested (frameFits d frame) _ 14 (λ z. omega arith)
-      (tested (leb (length (packByteOffset frame)) octetLimit) _ 16 (λ z. omega arith) file-enough)
+  unfolding replaceFitting
+  answer-enough Binary d frame = tested (frameFits d frame) _ 14 (λ z. omega arith) file-enough
   answer-enough Base64 d frame = another new 18 0 (λ z. omega arith)
 
 pub enough-room : (limit : ℕ) (file : List ℕ) (n : ℕ) (frame : List ℤ) (room : ℕ)

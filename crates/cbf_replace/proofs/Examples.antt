@@ -16,8 +16,7 @@ use Rattle.cbf_format.specs.Listing.{digitsOf, sections, numbered}
 use Rattle.cbf_format.specs.House.{endedLines, houseLines, house, replacedFile}
 use Rattle.cbf_format.proofs.Examples.{sample}
 use Rattle.cbf_answers.specs.Rooms.{roomFor}
-use Rattle.cbf_format.specs.ReplaceCalls.{frameFits, roomForFile, replacePacked, replaceFitting, replaceOutcome}
-use Rattle.cbf_format.specs.ReplaceCalls.{replacedBy}
+use Rattle.cbf_format.specs.ReplaceCalls.{frameFits, roomForFile, replaceFitting, replaceOutcome, replacedBy}
 use Rattle.cbf_pixels.specs.Octets as O
 
 pub sample-replaced : replacedBy sample (read 80 sample) 1 (pos 5 ∷ pos 205 ∷ []) ≡ sample
@@ -30,7 +29,6 @@ sample-replaced = refl
 pub sample-answer : replaceOutcome sample (read 80 sample) 1 (pos 5 ∷ pos 205 ∷ []) 401 ≡ gives 401
 unfolding sample read readF step due textLine lineEnd exactly literal semicolonLine headerLine headerLines judge
     verdict headers lastBoundary afterSpan closed binaryData section identified decimalNumber sections numbered
-    house endedLines houseLines digitsOf replacedFile exchanged replaceOutcome replaceFitting replacePacked
-    roomForFile roomFor frameFits within allWithin packByteOffset packFrom packDifference packBy widths O.half
-    O.bits O.octets
+    house endedLines houseLines digitsOf replacedFile exchanged replaceOutcome replaceFitting roomForFile roomFor
+    frameFits within allWithin packByteOffset packFrom packDifference packBy widths O.half O.bits O.octets
 sample-answer = refl

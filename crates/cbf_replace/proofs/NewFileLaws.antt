@@ -1,16 +1,17 @@
--- One section as a choice of sections, and what is answered for a packed frame and a frame. Assumes nothing.
+-- One section as a choice of sections, and what is answered for a frame. Assumes nothing.
 use mathlib.Core.Path.{_≡_, refl, sym, ap, subst}
 use mathlib.Core.Bool.{false}
 use mathlib.Core.List.{List, [], _∷_}
-use Prim.Native.Nat.{ℕ, _≤_, _<_}
+use Prim.Native.Nat.{ℕ, _≤_}
 use native.Mathlib.Omega.{arith}
-use borrow.Author.Tests.{le-leb, lt-leb, eq-eqb, ne-eqb}
+use borrow.Author.Tests.{eq-eqb, ne-eqb}
 use lib.ListN.{length}
 use lib.Seq.{slice, take-length}
 use lib.IntN.{ℤ}
 use Rattle.cbf_pixels.specs.Pixels.{packByteOffset}
 use Rattle.cbf_answers.specs.Answers.{Outcome, refuses}
-use Rattle.cbf_answers.specs.Limits.{octetLimit, fileLimit}
+use Rattle.cbf_answers.specs.Limits.{pixelLimit}
+use Rattle.cbf_pixels.proofs.Bounds.{packed-limit}
 use Rattle.cbf_measure.specs.Measure.{sizeOf}
 use Rattle.cbf_measure.specs.declared.measure.Size.the-variants.{Outside, Octets}
 use Rattle.cbf_pack.proofs.PackingLaws.{measured, outside, all-small}
@@ -20,7 +21,7 @@ use Rattle.cbf_format.proofs.ReplacementLaws.{replaced-same}
 use Rattle.cbf_reader.specs.declared.whole_file.SectionFound.{SectionFound}
 use Rattle.cbf_reader.proofs.LoopLaws.{before-count}
 use Rattle.cbf_answers.proofs.Rooms.{Says, refusal}
-use Rattle.cbf_format.specs.ReplaceCalls.{frameFits, replacePacked, replaceFitting}
+use Rattle.cbf_format.specs.ReplaceCalls.{frameFits, replaceFitting}
 use Rattle.cbf_house.specs.Span.{Packed}
 use Rattle.cbf_rewrite.proofs.RewriteLaws.{SaysFile}
 use Rattle.cbf_rewrite.specs.Rewrite.{sectionsOf, chosenFrames, newOctets, rewritten, ChosenSections, Rewritable}
@@ -34,7 +35,7 @@ module _ {limit : ℕ} {file : List ℕ} {number : ℕ} {f : SectionFound} (ther
   all-of-it : slice 0 (length frame) frame ≡ frame
   all-of-it = take-length frame
 
-  pub one-rewritable : {size : ℕ} → Packed frame size → size ≤ fileLimit
+  pub one-rewritable : {size : ℕ} → Packed frame size → length frame ≤ pixelLimit
       → Rewritable limit file (number ∷ []) (length frame ∷ []) (size ∷ []) frame f
   unfolding ChosenSections
   one-rewritable {size} k few =
@@ -51,7 +52,7 @@ module _ {limit : ℕ} {file : List ℕ} {number : ℕ} {f : SectionFound} (ther
             low = omega arith;
             high = omega arith;
             packed = subst (λ (f : List ℤ). Packed f size) (sym all-of-it) k;
-            few = few;
+            few = omega (arith, k .counted, packed-limit frame few);
           },
           tt,
         );
@@ -67,22 +68,6 @@ module _ {limit : ℕ} {file : List ℕ} {number : ℕ} {f : SectionFound} (ther
 
 -- ---- what is answered
 
--- for a packed frame
-module _ (os new old : List ℕ) where
-  abbrev pub SaysPacked : Outcome → List ℕ → Type 0
-  SaysPacked said out = Says (replacePacked os new (length old)) new old said out
-
-  pub packed-large : octetLimit < length os → SaysPacked (refuses 16 0) old
-  unfolding replacePacked
-  packed-large h = refusal new old (sym (rw (lt-leb (length os) octetLimit h) refl))
-
-  pub packed-small : {said : Outcome} {out : List ℕ} → length os ≤ octetLimit → (made : List ℕ) → made ≡ new
-      → SaysFile made old said out → SaysPacked said out
-  unfolding replacePacked
-  packed-small {said} {out} few made e u =
-      rw (le-leb (length os) octetLimit few) (subst (λ (l : List ℕ). SaysFile l old said out) e u)
-
--- for a frame
 module _ (d : Description) (frame : List ℤ) (new old : List ℕ) where
   abbrev pub SaysFitting : Outcome → List ℕ → Type 0
   SaysFitting said out = Says (replaceFitting d frame new (length old)) new old said out
@@ -105,6 +90,9 @@ module _ (d : Description) (frame : List ℤ) (new old : List ℕ) where
       record { small = all-small (d .kind) frame (m .0); counted = sym (m .1) }
 
   pub frame-fits : {n : ℕ} {said : Outcome} {out : List ℕ} → length frame ≡ d .elements
-      → Octets n ≡ sizeOf (d .kind) frame → SaysPacked (packByteOffset frame) new old said out → SaysFitting said out
+      → Octets n ≡ sizeOf (d .kind) frame → {made : List ℕ} → made ≡ new → SaysFile made old said out
+      → SaysFitting said out
   unfolding replaceFitting frameFits
-  frame-fits {n} e h u = rw (eq-eqb (length frame) (d .elements) e, measured (d .kind) frame old n h .0) u
+  frame-fits {n} {said} {out} e h is u =
+      rw (eq-eqb (length frame) (d .elements) e, measured (d .kind) frame old n h .0)
+      (subst (λ (l : List ℕ). SaysFile l old said out) is u)
