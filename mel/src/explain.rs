@@ -183,8 +183,8 @@ fn withdrawn() -> String {
          proved.",
     );
     let remedy = paragraph(
-        "What to do: where a program says refused 16, it is not by this library. Ask whoever made that \
-         program, and send along what it printed.",
+        "What to do: this library never says it. Where another program does, ask whoever made that program, \
+         and send along what it printed.",
     );
     format!(
         "refused {WITHDRAWN}: withdrawn; no call gives it, and it is not used again\n{why}{remedy}"

@@ -1,5 +1,5 @@
-//! Replacements whose result is as long as a file may be, and one byte longer; the fields of sections at far places; the
-//! frame that packs to the most octets.
+//! Replacements whose result is as long as a file may be, and one byte longer; the fields of sections at far places;
+//! the frame that packs to the most octets.
 
 use super::sections::check_fields;
 use super::{calls, differ};

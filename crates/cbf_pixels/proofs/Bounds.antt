@@ -47,7 +47,7 @@ pub packed-bounds : (ps : List ℤ) → (length ps ≤ length (packByteOffset ps
 unfolding packByteOffset
 packed-bounds ps = from-bounds (pos 0) ps
 
--- so that no list that may be packed, and no frame of a section, has the octets for which 16 was to be given: document 02
--- (xii) withdraws it
+-- so that no list that may be packed, and no frame of a section, takes more octets than a file may have bytes: why
+-- document 02 (xii) withdraws 16
 pub packed-limit : (ps : List ℤ) → length ps ≤ pixelLimit → length (packByteOffset ps) ≤ fileLimit
 packed-limit ps few = octets-limit few (packed-bounds ps .1)

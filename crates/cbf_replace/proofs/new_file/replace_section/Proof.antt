@@ -1,5 +1,5 @@
--- `replace_section` meets its contract, by those of `octet_count` and `rewrite_file`: the section is the only one that is
--- chosen. Assumes nothing.
+-- `replace_section` meets its contract, by those of `octet_count` and `rewrite_file`: the section is the only one that
+-- is chosen. Assumes nothing.
 use mathlib.Core.Path.{sym, _∙_}
 use mathlib.Core.List.{List}
 use Prim.Native.Nat.{ℕ}
