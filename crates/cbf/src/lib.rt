@@ -1,6 +1,8 @@
 // SPDX-License-Identifier: Apache-2.0
 // The calls on a file: its sections with their octets and pixels, its listing and its catalogue, a frame replaced;
 // and packing. No call has a `requires`; the types that their contracts name are handed on with them.
+#![tactic(auto)]
+
 pub use cbf_answers::{Answer, LINE_LIMIT, Refusal};
 pub use cbf_catalogue::catalogue;
 pub use cbf_format::{Description, Encoding, Numbered, OctetsPlace, Range, Section};

@@ -1,5 +1,7 @@
 // SPDX-License-Identifier: Apache-2.0
 // What every call speaks of: answers, refusals, and document 01's limits. No function here has a `requires`.
+#![tactic(auto)]
+
 ghost use Rattle.std.specs.Prelude.{◌≡◌};
 ghost use Rattle.cbf_answers.specs.Answers.{refuses, outcome};
 
@@ -14,14 +16,14 @@ pub const PIXEL_LIMIT: usize = 67108864;
 pub const LINE_LIMIT: usize = 80;
 
 // A number of document 01's table of refusals, and the place that goes with it.
-#[derive(Drop)]
+#[derive(Clone, Copy)]
 pub struct Refusal {
     pub number: u32,
     pub place: usize,
 }
 
 // The length of what was written, or a refusal, which wrote nothing.
-#[derive(Drop)]
+#[derive(Clone, Copy)]
 pub enum Answer {
     Length(usize),
     Refused(Refusal),

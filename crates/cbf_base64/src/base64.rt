@@ -25,7 +25,7 @@ pub fn symbol(b: u8) -> Symbol
 }
 
 // Letters and pads so far, the last letter's six bits, and whether a letter stands after a pad.
-#[derive(Drop)]
+#[derive(Clone, Copy)]
 pub struct Groups {
     pub letters: usize,
     pub pads: usize,
@@ -104,7 +104,7 @@ pub fn groups_hold(g: Groups, size: usize) -> bool
 }
 
 // The symbols up to a place.
-#[derive(Drop)]
+#[derive(Clone, Copy)]
 pub struct Symbols {
     pub groups: Groups,
     pub to: usize,

@@ -18,7 +18,7 @@ use cbf_lines::{closing, line, text};
 
 // A line of the text: the place after the closing boundary's line; or the symbols so far with the line's, and the
 // place after it.
-#[derive(Drop)]
+#[derive(Clone, Copy)]
 pub enum Base64Line {
     Refused(Refusal),
     Closing(usize),
@@ -27,7 +27,7 @@ pub enum Base64Line {
 
 // The text: its symbols, the place of the closing boundary, and the place after its line; or a refusal; or that the
 // file ends before it.
-#[derive(Drop)]
+#[derive(Clone, Copy)]
 pub enum Base64Text {
     Refused(Refusal),
     CutOff,

@@ -1,6 +1,8 @@
 // SPDX-License-Identifier: Apache-2.0
 // The library for C, and whatever calls C: include/mooringelm.h says what a caller owes. Each function returns a struct by
 // value, so that a refusal with its number and place comes back without touching what was lent.
+#![tactic(auto)]
+
 ghost use Rattle.std.specs.Prelude.{◌≡◌, ◌+◌, ◌-◌, ◌<◌, ◌≤◌, ◌^◌, List, length};
 ghost use Rattle.std.proofs.Math.Seq.{slice};
 ghost use Rattle.cbf_pixels.specs.Pixels.{pack_byte_offset};
@@ -21,7 +23,7 @@ use cbf_pixels::{Compression, ElementType};
 
 // mel_answer: what every call returns but the two that follow. `refusal` is 0 for none; then `place` and `item` are 0.
 #[repr(C)]
-#[derive(Drop)]
+#[derive(Clone, Copy)]
 pub struct MelAnswer {
     pub refusal: u32,
     pub place: u32,
@@ -31,7 +33,7 @@ pub struct MelAnswer {
 
 // mel_octets_answer: how many octets there are, and where in the file they start.
 #[repr(C)]
-#[derive(Drop)]
+#[derive(Clone, Copy)]
 pub struct MelOctetsAnswer {
     pub refusal: u32,
     pub place: u32,
@@ -42,7 +44,7 @@ pub struct MelOctetsAnswer {
 
 // mel_section_answer: what the headers of a section say, and where it and the name of its data block lie.
 #[repr(C)]
-#[derive(Drop)]
+#[derive(Clone, Copy)]
 pub struct MelSectionAnswer {
     pub refusal: u32,
     pub place: u32,
@@ -63,7 +65,7 @@ pub struct MelSectionAnswer {
     pub encoding: u8,
 }
 
-#[derive(Drop)]
+#[derive(Clone, Copy)]
 pub enum Element {
     Unknown,
     Known(ElementType),
@@ -84,7 +86,7 @@ fn element_of(number: u8) -> Element
     }
 }
 
-#[derive(Drop)]
+#[derive(Clone, Copy)]
 pub enum Compressed {
     Unknown,
     Known(Compression),

@@ -12,7 +12,7 @@ use cbf_reader::{Cursor, NextSection, Start};
 
 // The refusal of a file, the boundary line of its first section whose block's name is too long, or the number of its
 // sections.
-#[derive(Drop)]
+#[derive(Clone, Copy)]
 pub enum Counted {
     Refused(Refusal),
     LongName(usize),

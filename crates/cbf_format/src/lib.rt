@@ -2,6 +2,8 @@
 // The file format: document 01's rules as definitions (specs/), their laws (proofs/), and the types that contracts
 // speak of.
 
+#![tactic(auto)]
+
 use cbf_answers::Refusal;
 use cbf_pixels::{Compression, ElementType};
 
@@ -20,7 +22,7 @@ pub const CLOSING_LENGTH: usize = 31;
 pub const LABEL_WIDTH: usize = 32;
 
 // What a byte of BASE64 text is: a letter with its six-bit number, the pad `=`, a blank, or none of these.
-#[derive(Drop)]
+#[derive(Clone, Copy)]
 pub enum Symbol {
     Letter(u8),
     Pad,
@@ -29,14 +31,14 @@ pub enum Symbol {
 }
 
 // "Content-Transfer-Encoding, needed: BINARY or BASE64."
-#[derive(Drop)]
+#[derive(Clone, Copy)]
 pub enum Encoding {
     Binary,
     Base64,
 }
 
 // The headers whose values are read, in the order that document 01 lists them; "other headers are passed over".
-#[derive(Drop)]
+#[derive(Clone, Copy)]
 pub enum KnownHeader {
     // Content-Transfer-Encoding
     TransferEncoding,
@@ -61,7 +63,7 @@ pub enum KnownHeader {
 }
 
 // What a section's headers say. An ID or a dimension that is absent is 0: each is at least 1 where it is given.
-#[derive(Drop)]
+#[derive(Clone, Copy)]
 pub struct Description {
     pub encoding: Encoding,
     pub size: u64,
@@ -75,7 +77,7 @@ pub struct Description {
 }
 
 // What the parts of Content-Type have said so far of conversions: nothing, byte offset, or what is no value of it.
-#[derive(Drop)]
+#[derive(Clone, Copy)]
 pub enum Conversion {
     Unseen,
     Seen,
@@ -83,7 +85,7 @@ pub enum Conversion {
 }
 
 // A part of the file.
-#[derive(Drop)]
+#[derive(Clone, Copy)]
 pub struct Range {
     pub from: usize,
     pub to: usize,
@@ -91,7 +93,7 @@ pub struct Range {
 
 // A section: its headers, its span (document 01's term: from the opening boundary's first hyphen to the closing
 // boundary's last), the place of the first octet (BASE64: of the text), and its data block's name.
-#[derive(Drop)]
+#[derive(Clone, Copy)]
 pub struct Section {
     pub description: Description,
     pub from: usize,
@@ -100,14 +102,14 @@ pub struct Section {
     pub block: Range,
 }
 
-#[derive(Drop)]
+#[derive(Clone, Copy)]
 pub enum Numbered {
     Refused(Refusal),
     As(Section),
 }
 
 // A refusal, or the place of a section's first octet and how many octets there are.
-#[derive(Drop)]
+#[derive(Clone, Copy)]
 pub enum OctetsPlace {
     Refused(Refusal),
     At(usize, usize),

@@ -11,7 +11,7 @@ use crate::found::Found;
 use cbf_format::{Description, Encoding, KnownHeader};
 use cbf_pixels::{Compression, ElementType};
 
-#[derive(Drop)]
+#[derive(Clone, Copy)]
 pub enum Described {
     Missing,
     Disagree,

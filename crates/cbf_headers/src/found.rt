@@ -5,7 +5,7 @@ ghost use Rattle.cbf_headers.specs.Found.{field_of, found_of, Stored};
 use cbf_format::KnownHeader;
 
 // For each known header one more than its value, or 0 where there is none.
-#[derive(Drop)]
+#[derive(Clone, Copy)]
 pub struct Found {
     pub encoding: u64,
     pub size: u64,

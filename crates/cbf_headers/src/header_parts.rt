@@ -6,7 +6,7 @@ use cbf_lines::text::Class;
 use cbf_lines::{line, text};
 
 // Where the header's name ends, where its value ends, and where the next header or the empty line is.
-#[derive(Drop)]
+#[derive(Clone, Copy)]
 pub struct Parts {
     pub colon: usize,
     pub to: usize,

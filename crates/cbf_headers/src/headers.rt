@@ -9,7 +9,7 @@ use cbf_lines::line;
 use cbf_lines::line::Line;
 
 // The end of the headers: the empty line's place and the place after it; or a refusal; or that the file ends before it.
-#[derive(Drop)]
+#[derive(Clone, Copy)]
 pub enum HeaderEnd {
     Refused(Refusal),
     CutOff,

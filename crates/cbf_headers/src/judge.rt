@@ -13,7 +13,7 @@ use cbf_values::value::Whole;
 use cbf_values::{header, known_value};
 
 // Whether a header is refused, since it is repeated or has a bad value, and its place; else the values.
-#[derive(Drop)]
+#[derive(Clone, Copy)]
 pub struct Judged {
     pub refused: bool,
     pub place: usize,

@@ -11,7 +11,7 @@ use cbf_answers::Refusal;
 use cbf_format::Description;
 
 // What the headers say and where their empty line ends; or a refusal; or that the file ends before it.
-#[derive(Drop)]
+#[derive(Clone, Copy)]
 pub enum Headers {
     Refused(Refusal),
     CutOff,

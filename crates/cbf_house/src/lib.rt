@@ -1,5 +1,7 @@
 // SPDX-License-Identifier: Apache-2.0
 // A section in house form, measured and written.
+#![tactic(auto)]
+
 mod head;
 mod span;
 

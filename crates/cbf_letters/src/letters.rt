@@ -105,7 +105,7 @@ pub fn next_place(file: &[u8], at: usize, to: usize) -> usize
 }
 
 // A letter's number and the place after it; 0 where the text ends.
-#[derive(Drop)]
+#[derive(Clone, Copy)]
 pub struct Six {
     pub number: u8,
     pub next: usize,

@@ -76,7 +76,7 @@ fn decode_group(file: &[u8], at: usize, to: usize, out: &mut [u8], from: usize) 
 }
 
 // The place in the text up to which it is decoded, and the end of the octets that were written.
-#[derive(Drop)]
+#[derive(Clone, Copy)]
 pub struct Decoded {
     pub at: usize,
     pub end: usize,

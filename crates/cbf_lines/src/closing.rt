@@ -8,7 +8,7 @@ use crate::text;
 use cbf_format::{CLOSING, CLOSING_LENGTH};
 
 // Where what was looked for ends, or that it is not there.
-#[derive(Drop)]
+#[derive(Clone, Copy)]
 pub enum Next {
     Missing,
     At(usize),
@@ -82,7 +82,7 @@ pub fn after_span(file: &[u8], at: usize, limit: usize) -> Next
 }
 
 // The end of a BINARY section: where its span ends, and where the next line starts.
-#[derive(Drop)]
+#[derive(Clone, Copy)]
 pub enum Ending {
     Wrong,
     Span(usize, usize),

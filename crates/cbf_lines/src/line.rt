@@ -11,7 +11,7 @@ use crate::text;
 use cbf_answers::Refusal;
 
 // A line: where its text ends, and where the next line starts; or a refusal.
-#[derive(Drop)]
+#[derive(Clone, Copy)]
 pub enum Line {
     Refused(Refusal),
     Text(usize, usize),

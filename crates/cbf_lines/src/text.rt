@@ -144,7 +144,7 @@ fn base64_letter(b: u8) -> bool
 }
 
 // What a scan passes over.
-#[derive(Drop)]
+#[derive(Clone, Copy)]
 pub enum Class {
     Blank,
     NotBlank,

@@ -1,5 +1,7 @@
 // SPDX-License-Identifier: Apache-2.0
 // Reads a file from standard input and prints its listing, or the line of its refusal.
+#![tactic(auto)]
+
 ghost use Rattle.std.specs.Prelude.{◌≡◌, length};
 ghost use Rattle.cbf_answers.specs.Answers.{outcome, written};
 ghost use Rattle.cbf_answers.specs.Limits.{line_limit};

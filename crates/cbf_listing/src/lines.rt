@@ -10,7 +10,7 @@ use cbf_answers::Refusal;
 use cbf_reader::{Cursor, NextSection, Start};
 
 // The refusal of a file, or the length of its lines.
-#[derive(Drop)]
+#[derive(Clone, Copy)]
 pub enum Measured {
     Refused(Refusal),
     Length(usize),

@@ -210,7 +210,7 @@ fn size_of_part(
     size_of_words(words)
 }
 
-#[derive(Drop)]
+#[derive(Clone, Copy)]
 pub enum Size {
     Outside,
     Octets(usize),

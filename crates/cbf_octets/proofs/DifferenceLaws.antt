@@ -218,7 +218,7 @@ took-here {i = i} {k = k} {n = n} {next = next} {r = r} N t e o h l b q =
     record {
       difference = signed k n;
       read = tries-here N t e;
-      near = to_z-of_z (record { sfits = f }) ∙ q ∙ sym (clamped-near (signed k n) (omega arith));
+      near = to_z-of_z {w = w64} (record { sfits = f }) ∙ q ∙ sym (clamped-near (signed k n) (omega arith));
       ahead = omega (arith, t.from, N.after);
       reach = h;
       inside = N.inside;
@@ -232,7 +232,7 @@ took-last {i = i} {k = k} {n = n} {next = next} {r = r} N t o h q =
     record {
       difference = signed k n;
       read = tries-last N t;
-      near = to_z-of_z (record { sfits = f }) ∙ q;
+      near = to_z-of_z {w = w64} (record { sfits = f }) ∙ q;
       ahead = omega (arith, t.from, N.after);
       reach = h;
       inside = N.inside;

@@ -27,7 +27,7 @@ fn far(n: u64) -> i64
     -1 - (18446744073709551615 - n) as i64
 }
 
-#[derive(Drop)]
+#[derive(Clone, Copy)]
 pub struct Difference {
     pub value: i64,
     pub next: usize,

@@ -1,19 +1,21 @@
 // SPDX-License-Identifier: Apache-2.0
 // Octets as numbers: little-endian numbers, one difference of the byte-offset rule, and runs of octets that are no
 // escapes.
+#![tactic(auto)]
+
 pub mod difference;
 pub mod octets;
 pub mod plain;
 
 // Where unpacking stands: the last pixel, and where the next difference starts.
-#[derive(Drop)]
+#[derive(Clone, Copy)]
 pub struct Last {
     pub pixel: i64,
     pub next: usize,
 }
 
 // A part of the pixels: whether they unpack, how many they are, and where unpacking stands after them.
-#[derive(Drop)]
+#[derive(Clone, Copy)]
 pub struct Part {
     pub good: bool,
     pub count: usize,

@@ -1,25 +1,27 @@
 // SPDX-License-Identifier: Apache-2.0
 // Demand 3: the frames of two sections replaced, in either order, as one statement about the four calls. What is
 // demanded is in specs/.
+#![tactic(auto)]
+
 ghost use Rattle.cbf_orders.specs.Orders.{edit, calls, OrderSays, Premises, TwoOrders};
 
 use cbf_answers::{Answer, LINE_LIMIT};
 
 // The second call of an order: it is made only where the first gave a file.
-#[derive(Drop)]
+#[derive(Clone, Copy)]
 pub enum Second {
     NotMade,
     Made(Answer),
 }
 
 // The answers of the two calls of an order.
-#[derive(Drop)]
+#[derive(Clone, Copy)]
 pub struct Order {
     pub first: Answer,
     pub second: Second,
 }
 
-#[derive(Drop)]
+#[derive(Clone, Copy)]
 pub struct Orders {
     pub ij: Order,
     pub ji: Order,

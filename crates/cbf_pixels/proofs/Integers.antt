@@ -97,7 +97,7 @@ subℕ-eq a b c d e = go (ltb a b) refl
 
 -- an integer of 64 bits, stored and read
 pub held : (z : ℤ) → mag z < 2 ^ 63 → to_z w64 (of_z w64 z) ≡ z
-held z h = to_z-of_z (record { sfits = h })
+held z h = to_z-of_z {w = w64} (record { sfits = h })
 
 pub within_held : (t : ElementType) (z : ℤ) → within (least t) (greatest t) z ≡ true → to_z w64 (of_z w64 z) ≡ z
 within_held t z w = held z (omega (arith, within-small t z w))

@@ -3,11 +3,13 @@
 // as definitions (specs/) and laws (proofs/), and the types that contracts speak of. The code is in cbf_unpack and
 // cbf_pack.
 
+#![tactic(auto)]
+
 ghost use Rattle.std.specs.Prelude.{◌≡◌, ◌≤◌};
 ghost use Rattle.cbf_pixels.specs.Uncompressed.{octets_per};
 
 // "Six integer element types": document 01.
-#[derive(Drop)]
+#[derive(Clone, Copy)]
 pub enum ElementType {
     U8,
     S8,
@@ -17,7 +19,7 @@ pub enum ElementType {
     S32,
 }
 
-#[derive(Drop)]
+#[derive(Clone, Copy)]
 pub enum Compression {
     Uncompressed,
     ByteOffset,

@@ -12,7 +12,7 @@ use cbf_lines::closing::{Ending, Next};
 use cbf_lines::{closing, text};
 
 // Where the first octet is (BASE64: the text), where the section's span ends, and where the next line starts.
-#[derive(Drop)]
+#[derive(Clone, Copy)]
 pub enum Data {
     Refused(Refusal),
     CutOff,

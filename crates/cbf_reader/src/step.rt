@@ -21,7 +21,7 @@ use cbf_lines::text::Class;
 use cbf_lines::{line, text};
 
 // The state between two lines: in a text field, the place of its opening `;`.
-#[derive(Drop)]
+#[derive(Clone, Copy)]
 pub enum Field {
     First,
     Outside,
@@ -30,7 +30,7 @@ pub enum Field {
 }
 
 // Where reading stands: a place, how many sections were read, the name of the data block, and the field.
-#[derive(Drop)]
+#[derive(Clone, Copy)]
 pub struct Cursor {
     pub at: usize,
     pub count: usize,
@@ -38,7 +38,7 @@ pub struct Cursor {
     pub field: Field,
 }
 
-#[derive(Drop)]
+#[derive(Clone, Copy)]
 pub enum SectionRead {
     Refused(Refusal),
     CutOff,
@@ -160,7 +160,7 @@ fn line_of_field(file: &[u8], at: usize, field: Field, limit: usize) -> Line
 }
 
 // What one step gave: the cursor after a line, or a section and the cursor after it.
-#[derive(Drop)]
+#[derive(Clone, Copy)]
 pub enum Stepped {
     Refused(Refusal),
     CutOff,

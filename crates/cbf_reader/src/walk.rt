@@ -10,7 +10,7 @@ use cbf_answers::{FILE_LIMIT, Refusal};
 use cbf_format::{Range, Section};
 
 // What reading on gives: the next section and the cursor after it, or the file's end.
-#[derive(Drop)]
+#[derive(Clone, Copy)]
 pub enum NextSection {
     Refused(Refusal),
     End,
@@ -30,7 +30,7 @@ fn first_cursor() -> Cursor
 }
 
 // Where reading begins.
-#[derive(Drop)]
+#[derive(Clone, Copy)]
 pub enum Start {
     Refused(Refusal),
     At(Cursor),

@@ -12,7 +12,7 @@ use cbf_answers::Refusal;
 use cbf_format::{Numbered, Section};
 
 // A section with the cursors before and after it: from the first, next_section finds it and gives the second.
-#[derive(Drop)]
+#[derive(Clone, Copy)]
 pub struct SectionFound {
     pub before: Cursor,
     pub section: Section,
@@ -20,14 +20,14 @@ pub struct SectionFound {
 }
 
 // The section with the number that is requested.
-#[derive(Drop)]
+#[derive(Clone, Copy)]
 pub enum Requested {
     Missing,
     Found(SectionFound),
 }
 
 // The refusal of a file, or the number of its sections with the one that is requested.
-#[derive(Drop)]
+#[derive(Clone, Copy)]
 pub enum FileSections {
     Refused(Refusal),
     Accepted(usize, Requested),
@@ -71,7 +71,7 @@ fn read_file(file: &[u8], limit: usize, number: usize) -> FileSections
     }
 }
 
-#[derive(Drop)]
+#[derive(Clone, Copy)]
 pub enum Count {
     Refused(Refusal),
     Sections(usize),
@@ -88,7 +88,7 @@ pub fn count_sections(file: &[u8], limit: usize) -> Count
     }
 }
 
-#[derive(Drop)]
+#[derive(Clone, Copy)]
 pub enum SectionPlace {
     Refused(Refusal),
     At(SectionFound),

@@ -242,7 +242,7 @@ fn whole_octets(marks: &[u8; 208]) -> usize
     if marks[206] != 0 { 190 } else { 192 }
 }
 
-#[derive(Drop)]
+#[derive(Clone, Copy)]
 pub struct Mixed {
     pub biased: u64,
     pub next: usize,

@@ -8,7 +8,7 @@ use cbf_letters::octets;
 
 // What a window holds: the octets from next up to have are decoded and not used; behind them `left` octets are to
 // come, from at on in the text.
-#[derive(Drop)]
+#[derive(Clone, Copy)]
 pub struct Window {
     pub at: usize,
     pub left: usize,

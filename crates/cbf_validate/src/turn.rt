@@ -11,7 +11,7 @@ use cbf_sums::mixed;
 // Where a turn leads: the last biased pixel, 0 where pixels do not unpack, where the next difference starts, and how
 // many pixels it passed. The way of the next turn is a guess from what was met: 0, mixed octets are tried before a
 // run; 1, after it; more, a run and else singles, until so many turns less one are over.
-#[derive(Drop)]
+#[derive(Clone, Copy)]
 pub struct Turn {
     pub biased: u64,
     pub next: usize,

@@ -48,7 +48,7 @@ fn sum(biased: u64, d: i64) -> u64
 }
 
 // Biased pixels summed up: the last one, the bitwise or of all, and where the next difference starts.
-#[derive(Drop)]
+#[derive(Clone, Copy)]
 pub struct Sums {
     pub biased: u64,
     pub all: u64,
@@ -206,7 +206,7 @@ fn add_four(octets: &[u8], s: Sums) -> Sums
 }
 
 // The last biased pixel, 0 where pixels do not unpack, and where the next difference starts.
-#[derive(Drop)]
+#[derive(Clone, Copy)]
 pub struct State {
     pub biased: u64,
     pub next: usize,

@@ -67,7 +67,7 @@ fn with_part(file: &[u8], from: usize, to: usize, found: Conversion) -> Conversi
 }
 
 // The end of a part: its `;` outside quotes or the value's end; or that a quote is not closed.
-#[derive(Drop)]
+#[derive(Clone, Copy)]
 pub enum PartEnd {
     Unclosed,
     At(usize),

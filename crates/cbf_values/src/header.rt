@@ -12,7 +12,7 @@ use cbf_format::KnownHeader;
 use cbf_lines::text;
 
 // The name of a header: of a known one, or of another.
-#[derive(Drop)]
+#[derive(Clone, Copy)]
 pub enum Name {
     Known(KnownHeader),
     Other,
@@ -57,7 +57,7 @@ pub fn known(file: &[u8], from: usize, to: usize) -> Name
 }
 
 // What stands in a pair of quotes, or all of it where there are none.
-#[derive(Drop)]
+#[derive(Clone, Copy)]
 pub enum Inner {
     Bad,
     Text(usize, usize),

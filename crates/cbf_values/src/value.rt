@@ -10,7 +10,7 @@ use cbf_format::Range;
 use cbf_lines::text;
 
 // One character of a value, and where the next one is.
-#[derive(Drop)]
+#[derive(Clone, Copy)]
 pub enum Character {
     End,
     Byte(u8, usize),
@@ -104,7 +104,7 @@ pub fn is_value(file: &[u8], from: usize, to: usize, word: &[u8]) -> bool
     at == to
 }
 
-#[derive(Drop)]
+#[derive(Clone, Copy)]
 pub enum Whole {
     Bad,
     Number(u64),

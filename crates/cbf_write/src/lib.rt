@@ -1,5 +1,7 @@
 // SPDX-License-Identifier: Apache-2.0
 // Numbers and text, written to lent memory.
+#![tactic(auto)]
+
 mod digits;
 mod large;
 mod put;

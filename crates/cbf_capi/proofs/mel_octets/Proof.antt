@@ -6,36 +6,36 @@ use Rattle.cbf_capi.proofs.BoundaryLaws.{place-fits, octets-say}
 use Rattle.cbf_capi.proofs.mel_octets.Statement.{statement}
 use Rattle.cbf_capi.proofs.mel_octets.Tie as tie
 
-cast-t8 : tie.Need-overflow-cast-t8
+cast-t8 : tie.Need-overflow_cast-result
 cast-t8 c =
     let a = c.before.before.before.before.before.before.args in
     record {
       fits = place-fits _ a.file.now a.section
-          (ap place_of (sym c.before.before.place.given.1) ∙ c.before.before.before.before.octets-at.ensures);
+          (ap place_of (sym c.before.before.place-1.given.1) ∙ c.before.before.before.before.octets_at-place.ensures);
     }
 
-cast-t9 : tie.Need-overflow-cast-t9
+cast-t9 : tie.Need-overflow_cast-result-in-At
 cast-t9 c =
     let a = c.before.before.before.before.before.args in
     record {
       fits = place-fits _ a.file.now a.section
-          (ap place_of (sym c.before.place2.given.1) ∙ c.before.before.before.octets-at.ensures);
+          (ap place_of (sym c.before.place-in-At-1.given.1) ∙ c.before.before.before.octets_at-place.ensures);
     }
 
-returns : tie.Need-returns
+returns : tie.Need-returns-in-Refused
 returns c =
     let a = c.before.before.before.before.before.before.args in
     octets-say _ a.file.now a.section
-    (ap place_of (sym c.before.before.place.given.1) ∙ c.before.before.before.before.octets-at.ensures)
+    (ap place_of (sym c.before.before.place-1.given.1) ∙ c.before.before.before.before.octets_at-place.ensures)
 
-returns-2 : tie.Need-returns-2
+returns-2 : tie.Need-returns-in-At
 returns-2 c =
     let a = c.before.before.before.before.before.args in
     octets-say _ a.file.now a.section
-    (ap place_of (sym c.before.place2.given.1) ∙ c.before.before.before.octets-at.ensures)
+    (ap place_of (sym c.before.place-in-At-1.given.1) ∙ c.before.before.before.octets_at-place.ensures)
 
-pub mel-octets-spec : {M : Type 1} → statement M
-mel-octets-spec =
+pub mel_octets_spec : {M : Type 1} → statement M
+mel_octets_spec =
     tie.close
     (tie.spec
     (λ c κs. search rules) (λ c. search rules) cast-t8 (λ c. search rules) cast-t9 returns returns-2)

@@ -5,29 +5,29 @@ use borrow.Author.Rules.{rules}
 use Rattle.cbf_capi.proofs.mel_pack.Statement.{statement}
 use Rattle.cbf_capi.proofs.mel_pack.Tie as tie
 
-answer-of-requires : tie.Need-answer-of-requires
+answer-of-requires : tie.Need-answer_of-requires
 answer-of-requires c κs = let a = c.before.before.before.before.before.before.before.before.before.args in rw
     c.before.before.pack.ensures.0 (pack-fits _ a.pixels.now (length a.out.now))
 
-returns : tie.Need-returns
+returns : tie.Need-returns-in-Unknown
 unfolding PackSays
 returns c =
     let a = c.before.before.before.before.before.args in
-    pack-unknown _ a.pixels.now a.out.now _ c.refused.ensures (sym c.before.enum_told.given.1
-    ∙ c.before.before.before.element-of.ensures)
+    pack-unknown _ a.pixels.now a.out.now _ c.refused.ensures (sym c.before.enum_told-1.given.1
+    ∙ c.before.before.before.element_of-known.ensures)
 
-returns-2 : tie.Need-returns-2
+returns-2 : tie.Need-returns-in-Known
 unfolding PackSays
 returns-2 c =
     let a = c.before.before.before.before.before.before.before.before.before.before.args in
     let E = c.before.before.before.pack.ensures in
     pack-known _ a.pixels.now a.out.now _
-    (sym c.before.before.before.before.before.before.known.given.1
-    ∙ c.before.before.before.before.before.before.before.before.element-of.ensures) _ _ _
-    c.answer-of.ensures E.0 E.1
+    (sym c.before.before.before.before.before.before.known-1.given.1
+    ∙ c.before.before.before.before.before.before.before.before.element_of-known.ensures) _ _ _
+    c.answer_of.ensures E.0 E.1
 
-pub mel-pack-spec : {M : Type 1} → statement M
-mel-pack-spec =
+pub mel_pack_spec : {M : Type 1} → statement M
+mel_pack_spec =
     tie.close
     (tie.spec
     (λ c κs. search rules) (λ c. search rules) (λ c κs. search rules) (λ c. search rules)

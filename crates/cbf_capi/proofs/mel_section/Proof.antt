@@ -4,36 +4,36 @@ use Rattle.cbf_capi.proofs.BoundaryLaws.{SectionSays, refused-fits, refused_says
 use Rattle.cbf_capi.proofs.mel_section.Statement.{statement}
 use Rattle.cbf_capi.proofs.mel_section.Tie as tie
 
-cast-no-section : tie.Need-overflow-cast-no-section
+cast-no-section : tie.Need-overflow_cast-r
 cast-no-section c =
     let a = c.before.before.before.before.before.before.args in
-    let E = c.before.before.before.before.section.ensures in
-    record { fits = refused-fits _ a.file.now _ _ E.0 E.1 _ c.before.before.numbered.given.1 }
+    let E = c.before.before.before.before.section-numbered.ensures in
+    record { fits = refused-fits _ a.file.now _ _ E.0 E.1 _ c.before.before.numbered-1.given.1 }
 
-section-of-requires : tie.Need-section-of-requires
+section-of-requires : tie.Need-section_of-requires
 section-of-requires c κs =
     let a = c.before.before.before.before.before.args in
-    let E = c.before.before.before.section.ensures in
-    narrow-section _ a.file.now _ _ E.0 E.1 _ c.before.numbered2.given.1
+    let E = c.before.before.before.section-numbered.ensures in
+    narrow-section _ a.file.now _ _ E.0 E.1 _ c.before.numbered-in-As-1.given.1
 
-returns : tie.Need-returns
+returns : tie.Need-returns-in-Refused
 unfolding SectionSays
 returns c =
     let a = c.before.before.before.before.before.before.before.args in
-    let E = c.before.before.before.before.before.section.ensures in
-    refused_says _ a.file.now _ _ E.0 E.1 _ c.before.before.before.numbered.given.1
-    c.no-section.ensures
+    let E = c.before.before.before.before.before.section-numbered.ensures in
+    refused_says _ a.file.now _ _ E.0 E.1 _ c.before.before.before.numbered-1.given.1
+    c.no_section.ensures
 
-returns-2 : tie.Need-returns-2
+returns-2 : tie.Need-returns-in-As
 unfolding SectionSays
 returns-2 c =
     let a = c.before.before.before.before.before.before.args in
-    let E = c.before.before.before.before.section.ensures in
-    section-says _ a.file.now _ _ E.0 E.1 _ c.before.before.numbered2.given.1
-    c.section-of.ensures
+    let E = c.before.before.before.before.section-numbered.ensures in
+    section-says _ a.file.now _ _ E.0 E.1 _ c.before.before.numbered-in-As-1.given.1
+    c.section_of.ensures
 
-pub mel-section-spec : {M : Type 1} → statement M
-mel-section-spec =
+pub mel_section_spec : {M : Type 1} → statement M
+mel_section_spec =
     tie.close
     (tie.spec
     (λ c κs. search rules) (λ c. search rules) cast-no-section (λ c κs. search rules) (λ c. search rules)

@@ -6,40 +6,40 @@ use borrow.Author.Rules.{rules}
 use Rattle.cbf_capi.proofs.mel_unpack_octets.Statement.{statement}
 use Rattle.cbf_capi.proofs.mel_unpack_octets.Tie as tie
 
-answer-of-requires : tie.Need-answer-of-requires
+answer-of-requires : tie.Need-answer_of-requires
 answer-of-requires c κs = let a = c.before.before.before.before.before.before.before.before.before.before.before.before.args in rw c.before.unpack.ensures.0 (unpack-fits _ _ a.count a.octets.now
     (length a.pixels.now))
 
-returns : tie.Need-returns
+returns : tie.Need-returns-in-Unknown
 unfolding UnpackSays
 returns c =
     let a = c.before.before.before.before.before.before.args in
     unpack-no-type _ _ a.count a.octets.now a.pixels.now _ c.refused.ensures
-    (sym c.before.enum_told.given.1 ∙ c.before.before.before.before.element-of.ensures)
+    (sym c.before.enum_told-1.given.1 ∙ c.before.before.before.before.element_of-known.ensures)
 
-returns-2 : tie.Need-returns-2
+returns-2 : tie.Need-returns-in-Unknown-compressed_by
 unfolding UnpackSays
 returns-2 c =
     let a = c.before.before.before.before.before.before.before.before.before.args in
-    unpack-no-compression _ _ a.count a.octets.now a.pixels.now _ c.refused2.ensures _
-    (sym c.before.before.before.before.known.given.1
-    ∙ c.before.before.before.before.before.before.before.element-of.ensures)
-    (sym c.before.enum-told2.given.1
-    ∙ c.before.before.before.before.before.before.compression-of.ensures)
+    unpack-no-compression _ _ a.count a.octets.now a.pixels.now _ c.refused-in-Unknown-compressed_by.ensures _
+    (sym c.before.before.before.before.known-1.given.1
+    ∙ c.before.before.before.before.before.before.before.element_of-known.ensures)
+    (sym c.before.enum_told-in-Unknown-compressed_by-1.given.1
+    ∙ c.before.before.before.before.before.before.compression_of-compressed_by.ensures)
 
-returns-3 : tie.Need-returns-3
+returns-3 : tie.Need-returns-in-Known-compressed_by
 unfolding UnpackSays
 returns-3 c =
     let a = c.before.before.before.before.before.before.before.before.before.before.before.before.before.args in
     let E = c.before.before.unpack.ensures in
     unpack-known _ _ a.count a.octets.now a.pixels.now _ _
-    (sym c.before.before.before.before.before.before.before.before.known.given.1
-    ∙ c.before.before.before.before.before.before.before.before.before.before.before.element-of.ensures) (sym c.before.before.before.before.before.compressed-by.given.1
-    ∙ c.before.before.before.before.before.before.before.before.before.before.compression-of.ensures)
-    _ _ _ c.answer-of.ensures E.0 E.1
+    (sym c.before.before.before.before.before.before.before.before.known-1.given.1
+    ∙ c.before.before.before.before.before.before.before.before.before.before.before.element_of-known.ensures) (sym c.before.before.before.before.before.compressed_by-1.given.1
+    ∙ c.before.before.before.before.before.before.before.before.before.before.compression_of-compressed_by.ensures)
+    _ _ _ c.answer_of.ensures E.0 E.1
 
-pub mel-unpack-octets-spec : {M : Type 1} → statement M
-mel-unpack-octets-spec =
+pub mel_unpack_octets_spec : {M : Type 1} → statement M
+mel_unpack_octets_spec =
     tie.close
     (tie.spec
     (λ c κs. search rules) (λ c κs. search rules) (λ c. search rules) (λ c κs. search rules)

@@ -4,37 +4,37 @@ use borrow.Author.Rules.{rules}
 use Rattle.cbf_capi.proofs.section_of.Statement.{statement}
 use Rattle.cbf_capi.proofs.section_of.Tie as tie
 
-cast-t14 : tie.Need-overflow-cast-t14
+cast-t14 : tie.Need-overflow_cast-result-8
 cast-t14 c =
     let s = c.before.before.before.before.before.before.before.before.before.before in
     record { fits = s.requires.numbers.second_fits }
 
-cast-t15 : tie.Need-overflow-cast-t15
+cast-t15 : tie.Need-overflow_cast-result-9
 cast-t15 c =
     let s = c.before.before.before.before.before.before.before.before.before.before.before in
     record { fits = s.requires.numbers.third_fits }
 
-cast-t16 : tie.Need-overflow-cast-t16
+cast-t16 : tie.Need-overflow_cast-result-10
 cast-t16 c =
     let s = c.before.before.before.before.before.before.before.before.before.before.before.before in
     record { fits = omega (arith, s.requires.name_low, s.requires.name_high) }
 
-sub-t17 : tie.Need-overflow-sub-t17
+sub-t17 : tie.Need-overflow_sub-result
 sub-t17 c =
     let s = c.before.before.before.before.before.before.before.before.before.before.before.before in
     s.before.requires.name_low
 
-cast-t18 : tie.Need-overflow-cast-t18
+cast-t18 : tie.Need-overflow_cast-result-11
 cast-t18 c =
     let s = c.before.before.before.before.before.before.before.before.before.before.before.before in
     record { fits = omega (arith, s.before.requires.name_high) }
 
 returns : tie.Need-returns
 returns c =
-    rw (c.before.before.compression-number.ensures, c.before.type-number.ensures, c.encoding-number.ensures)
+    rw (c.before.before.compression_number.ensures, c.before.type_number.ensures, c.encoding_number.ensures)
 
-pub section-of-spec : {M : Type 1} → statement M
-section-of-spec =
+pub section_of_spec : {M : Type 1} → statement M
+section_of_spec =
     tie.close
     (tie.spec
     (λ c. search rules) (λ c. search rules) (λ c. search rules) (λ c. search rules) (λ c. search rules)

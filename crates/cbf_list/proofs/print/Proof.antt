@@ -6,11 +6,11 @@ use borrow.Author.Rules.{rules}
 use Rattle.cbf_list.proofs.print.Statement.{statement}
 use Rattle.cbf_list.proofs.print.Tie as tie
 
-slice-aggregate-write-all : tie.Need-slice-aggregate-write-all
+slice-aggregate-write-all : tie.Need-slice_bounds-write_all-end
 slice-aggregate-write-all c = sym (length-take-le _ c.before.before.before.before.before.before.args.out.now (omega arith))
 
-pub print-spec : {M : Type 1} → statement M
-print-spec =
+pub print_spec : {M : Type 1} → statement M
+print_spec =
     tie.close
     (tie.spec
     (λ c. search rules) (λ c. search rules) slice-aggregate-write-all (λ c κs. search rules)

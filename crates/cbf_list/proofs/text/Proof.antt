@@ -22,19 +22,19 @@ for-more : (more : Bool) {m : Bool} (file old : List ℕ) {said : Outcome} {out 
     → TextSays m file old said out → TextSays more file old said out
 for-more more file old {said} {out} e u = subst (λ (b : Bool). TextSays b file old said out) (sym e) u
 
-returns : tie.Need-returns
+returns : tie.Need-returns-then-more
 returns c =
     let w = c.before.before in
     let a = w.before.before.before.before.before.args in
-    for-more a.more a.file.now a.out.now w.before.before.if1.true w.refusal-line.ensures
+    for-more a.more a.file.now a.out.now w.before.before.if-more.true w.refusal_line.ensures
 
-returns-2 : tie.Need-returns-2
+returns-2 : tie.Need-returns
 returns-2 c =
     let w = c.before.before in
     let a = w.before.before.before.before.before.args in
-    for-more a.more a.file.now a.out.now w.before.before.if1.false w.listing-or-refusal.ensures
+    for-more a.more a.file.now a.out.now w.before.before.if-more.false w.listing_or_refusal.ensures
 
-pub text-spec : {M : Type 1} → statement M
-text-spec =
+pub text_spec : {M : Type 1} → statement M
+text_spec =
     tie.close
     (tie.spec (λ c κs. search rules) (λ c. search rules) returns (λ c κs. search rules) (λ c. search rules) returns-2)

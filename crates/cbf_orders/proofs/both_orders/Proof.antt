@@ -10,12 +10,12 @@ returns c =
     let t = c.before.before.before.before in
     let s = t.before.before.before.before.before.before.before in
     let a = s.before.before.before.before.before.before.before.before.args in
-    let x = s.one-order.ensures in
-    let y = t.one-order2.ensures in
+    let x = s.one_order-ij.ensures in
+    let y = t.one_order-ji.ensures in
     ((x, y), λ h. demand-3 a.file.now (edit a.i a.f.now) (edit a.j a.g.now) h x y)
 
-pub both-orders-spec : {M : Type 1} → statement M
-both-orders-spec =
+pub both_orders_spec : {M : Type 1} → statement M
+both_orders_spec =
     tie.close
     (tie.spec
     (λ c κs. search rules) (λ c κs. search rules) (λ c. search rules) (λ c. search rules) (λ c. search rules)

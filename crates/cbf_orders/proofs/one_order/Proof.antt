@@ -11,52 +11,52 @@ use Rattle.cbf_orders.proofs.OrderLaws.{replaces, given-fits}
 use Rattle.cbf_orders.proofs.one_order.Statement.{statement}
 use Rattle.cbf_orders.proofs.one_order.Tie as tie
 
-abbrev start : tie.After-replace → tie.Start
+abbrev start : tie.After-replace-first → tie.Start
 start m = m.before.before.before.before.before
 
 -- what the first call said
-said : (m : tie.After-replace) {x : Outcome} → outcome m.replace.result ≡ x
+said : (m : tie.After-replace-first) {x : Outcome} → outcome m.replace-first.result ≡ x
     → let a = (start m).args in
     Replaces a.file.now (edit a.i a.f.now)
-    (record { answer = x; before = a.oi.now; after = m.replace.new.1.1.1.1.0 })
+    (record { answer = x; before = a.oi.now; after = m.replace-first.new.1.1.1.1.0 })
 said m e =
     let a = (start m).args in
-    replaces a.file.now a.i a.f.now a.oi.now (sym e ∙ m.replace.ensures.value.0) m.replace.ensures.value.1
+    replaces a.file.now a.i a.f.now a.oi.now (sym e ∙ m.replace-first.ensures.value.0) m.replace-first.ensures.value.1
 
 -- it gave a file
-given : (b : tie.After-first2)
-    → let m = b.before.before.before.before in b.first2.given.0.0 ≤ length m.replace.new.1.1.1.1.0
+given : (b : tie.In-Length-2)
+    → let m = b.before.before.before.before in b.first-in-Length-1.given.0.0 ≤ length m.replace-first.new.1.1.1.1.0
 given b =
     let m = b.before.before.before.before in
     let a = (start m).args in
-    let fits = given-fits a.file.now a.i a.f.now a.oi.now m.replace.ensures.value.0
-    b.first2.given.0.0 (ap outcome b.first2.given.1) in
-    omega (arith, fits, m.replace.auto.1.1.1.1.0)
+    let fits = given-fits a.file.now a.i a.f.now a.oi.now m.replace-first.ensures.value.0
+    b.first-in-Length-1.given.0.0 (ap outcome b.first-in-Length-1.given.1) in
+    omega (arith, fits, m.replace-first.auto.1.1.1.1.0)
 
-slice-reshare-prefix-replace : tie.Need-slice-reshare-prefix-replace
+slice-reshare-prefix-replace : tie.Need-slice_bounds-replace-end
 slice-reshare-prefix-replace c = given c.before
 
-slice-aggregate-replace : tie.Need-slice-aggregate-replace
-slice-aggregate-replace c = let b = c.before.before in sym (length-take-le b.first2.given.0.0 _ (given b))
+slice-aggregate-replace : tie.Need-slice_bounds-replace-end-in-Length
+slice-aggregate-replace c = let b = c.before.before in sym (length-take-le b.first-in-Length-1.given.0.0 _ (given b))
 
-returns : tie.Need-returns
+returns : tie.Need-returns-in-Refused
 returns c =
     record {
-      first = said c.before.before.before.before.before (ap outcome c.before.first.given.1);
+      first = said c.before.before.before.before.before (ap outcome c.before.first-1.given.1);
       second = (refl, refl);
     }
 
-returns-2 : tie.Need-returns-2
+returns-2 : tie.Need-returns-in-Length
 returns-2 c =
     let u = c.before.before in
     let b = u.before.before.before.before in
     let m = b.before.before.before.before in
     let a = (start m).args in
-    let second = replaces _ a.j a.g.now a.oij.now u.replace2.ensures.value.0 u.replace2.ensures.value.1 in
-    record { first = said m (ap outcome b.first2.given.1); second = (outcome u.replace2.result, refl, second) }
+    let second = replaces _ a.j a.g.now a.oij.now u.replace-second.ensures.value.0 u.replace-second.ensures.value.1 in
+    record { first = said m (ap outcome b.first-in-Length-1.given.1); second = (outcome u.replace-second.result, refl, second) }
 
-pub one-order-spec : {M : Type 1} → statement M
-one-order-spec =
+pub one_order_spec : {M : Type 1} → statement M
+one_order_spec =
     tie.close
     (tie.spec
     (λ c κs. search rules) (λ c. search rules) (λ c. search rules) slice-reshare-prefix-replace

@@ -8,5 +8,5 @@ returns : tie.Need-returns
 unfolding groups_of groups_from
 returns c = refl
 
-pub no-groups-spec : {M : Type 1} → statement M
-no-groups-spec = tie.close (tie.spec returns)
+pub no_groups_spec : {M : Type 1} → statement M
+no_groups_spec = tie.close (tie.spec returns)

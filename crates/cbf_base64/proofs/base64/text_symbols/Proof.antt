@@ -38,21 +38,21 @@ byte-other : (x : ℕ) (s : Symbol) → s ≡ symbol x → s ≡ Other → symbo
 unfolding symbolic
 byte-other x s e h = ap (λ (r : Symbol). not (is_other r)) (sym e ∙ h)
 
-abbrev invariant-loop : tie.invariant-loop
+abbrev invariant-loop : tie.invariant-loop-i
 invariant-loop file from to run h₀ i₀ h i =
     (i ≤ to) × (h.letters + h.pads ≤ i) × Run symbolic file from i i × ((j : ℕ) → i ≤ j → j ≤ to
     → bytes_from h (slice i j file) ≡ bytes_from h₀ (slice i₀ j file)) × (i₀ ≤ i)
 
-abbrev decreases-loop : tie.decreases-loop
+abbrev decreases-loop : tie.decreases-loop-i
 decreases-loop file from to run h₀ i₀ h i = to - i
 
 -- where the arms meet: the letters in front are added, or there are none
-module _ (c : tie.Joined1 invariant-loop decreases-loop) where
-  few : c.if1.h.letters + c.if1.h.pads ≤ c.before.after-blocks.result
+module _ (c : tie.Joined-from-run invariant-loop decreases-loop) where
+  few : c.if-from-run.h.letters + c.if-from-run.h.pads ≤ c.before.after_blocks-run.result
   few =
       let a = c.before.before.before.args in
-      let m = c.before.after-blocks.result in
-      let run = c.before.after-blocks.ensures.1 in
+      let m = c.before.after_blocks-run.result in
+      let run = c.before.after_blocks-run.ensures.1 in
       ⊎_elim
       (λ w. let t = w.0.taken in rw (w.3 ∙ w.2.ensures) (omega (
         arith,
@@ -60,30 +60,30 @@ module _ (c : tie.Joined1 invariant-loop decreases-loop) where
             (symbol (get_or a.file.now (m - 1) 0)) (run.each (m - 1) (omega arith) (omega arith)),
       )))
       (λ w. rw w.1 (omega arith))
-      c.if1.branch
+      c.if-from-run.branch
 
-  in-front : let a = c.before.before.before.args in let m = c.before.after-blocks.result in (j : ℕ) → m ≤ j → j ≤ length a.file.now
-      → bytes_from c.if1.h (slice m j a.file.now) ≡ bytes_from a.g (slice a.from j a.file.now)
+  in-front : let a = c.before.before.before.args in let m = c.before.after_blocks-run.result in (j : ℕ) → m ≤ j → j ≤ length a.file.now
+      → bytes_from c.if-from-run.h (slice m j a.file.now) ≡ bytes_from a.g (slice a.from j a.file.now)
   in-front j h k =
       let a = c.before.before.before.args in
-      let m = c.before.after-blocks.result in
-      let run = c.before.after-blocks.ensures.1 in
+      let m = c.before.after_blocks-run.result in
+      let run = c.before.after_blocks-run.ensures.1 in
       ⊎_elim
       (λ w. ap (λ (g : Groups). bytes_from g (slice m j a.file.now)) (w.3 ∙ w.2.ensures) ∙ letters-run run a.g j w.0.taken h k)
       (λ w. let l = w.0.left in let low = run.low in let e : m ≡ a.from = omega arith in ap
       (λ (g : Groups). bytes_from g (slice m j a.file.now)) w.1
       ∙ ap (λ (i : ℕ). bytes_from a.g (slice i j a.file.now)) e)
-      c.if1.branch
+      c.if-from-run.branch
 
-loop-holds : tie.Need-loop-init invariant-loop decreases-loop
-loop-holds c = (omega arith, few c, run-symbolic c.before.after-blocks.ensures.1, (λ j h k. refl), omega arith)
+loop-holds : tie.Need-loop-i-init invariant-loop decreases-loop
+loop-holds c = (omega arith, few c, run-symbolic c.before.after_blocks-run.ensures.1, (λ j h k. refl), omega arith)
 
 -- at the loop's head: the symbols up to i, where the text ends or has another byte there
-so_far : (c : tie.At-loop invariant-loop decreases-loop) → let a = c.before.before.before.before.args in let l = c.loop in
+so_far : (c : tie.At-loop-i invariant-loop decreases-loop) → let a = c.before.before.before.before.args in let l = c.loop-i in
     (l.i < a.to → symbolic (get_or a.file.now l.i 0) ≡ false)
     → SymbolsTo a.file.now a.from a.to a.g (record { groups = l.h; to = l.i })
 so_far c stop =
-    let l = c.loop in
+    let l = c.loop-i in
     record {
       run = run-stop l.invariant.2 l.invariant.0 stop;
       added = sym (bytes-end l.h c.before.before.before.before.args.file.now l.i) ∙ l.invariant.3 l.i
@@ -91,33 +91,33 @@ so_far c stop =
       most = l.invariant.1;
     }
 
-returns : tie.Need-returns invariant-loop decreases-loop
+returns : tie.Need-returns-in-Other invariant-loop decreases-loop
 returns c =
-    so_far c.before.before.before.before.before (λ h. byte-other _ c.before.before.symbol.result
-    c.before.before.symbol.ensures c.enum_told.given.1)
+    so_far c.before.before.before.before.before (λ h. byte-other _ c.before.before.symbol-s.result
+    c.before.before.symbol-s.ensures c.enum_told-1.given.1)
 
-loop-again : tie.Need-loop-preserved invariant-loop decreases-loop
+loop-again : tie.Need-loop-i-preserved invariant-loop decreases-loop
 loop-again c =
     let a = c.before.before.before.before.before.before.before.before.before.args in
-    let l = c.before.before.before.before.before.loop in
+    let l = c.before.before.before.before.before.loop-i in
     let file = a.file.now in
     let x = get_or file l.i 0 in
     let s = symbol x in
-    let e : c.with-symbol.result ≡ add_symbol_to l.h s = c.with-symbol.ensures ∙ ap (add_symbol_to l.h) c.before.before.symbol.ensures in (
+    let e : c.with_symbol-h.result ≡ add_symbol_to l.h s = c.with_symbol-h.ensures ∙ ap (add_symbol_to l.h) c.before.before.symbol-s.ensures in (
       omega arith,
       rw e (omega (arith, symbol-count l.h s)),
-      run-next l.invariant.2 (byte-known x c.before.before.symbol.result c.before.before.symbol.ensures
-          (known c.before.before.symbol.result c.before.match.keys2)),
+      run-next l.invariant.2 (byte-known x c.before.before.symbol-s.result c.before.before.symbol-s.ensures
+          (known c.before.before.symbol-s.result c.before.in_default.keys2)),
       (λ j h k. ap (λ (g : Groups). bytes_from g (slice (l.i + 1) j file)) e ∙ sym (bytes_next l.h file l.i j
           (omega arith) (omega arith)) ∙ l.invariant.3 j (omega arith) k),
       omega arith,
     )
 
-returns-2 : tie.Need-returns-2 invariant-loop decreases-loop
+returns-2 : tie.Need-returns invariant-loop decreases-loop
 returns-2 c = so_far c.before (λ h. absurd (omega arith))
 
-pub text-symbols-spec : {M : Type 1} → statement M
-text-symbols-spec =
+pub text_symbols_spec : {M : Type 1} → statement M
+text_symbols_spec =
     tie.close
     (tie.spec
     invariant-loop decreases-loop (λ c κs. search rules) (λ c. search rules) (λ c. search rules) (λ c. search rules)

@@ -11,10 +11,10 @@ returns : tie.Need-returns
 returns c =
     let a = c.before.before.before.args in
     ap (λ (h : Groups). record { letters = a.g.letters + a.n; pads = h.pads; last = h.last; broken = h.broken })
-    (c.before.with-symbol.ensures ∙ ap (add_symbol_to a.g) c.before.before.symbol.ensures)
+    (c.before.with_symbol-h.ensures ∙ ap (add_symbol_to a.g) c.before.before.symbol-s.ensures)
 
-pub with-letters-spec : {M : Type 1} → statement M
-with-letters-spec =
+pub with_letters_spec : {M : Type 1} → statement M
+with_letters_spec =
     tie.close
     (tie.spec
     (λ c κs. search rules) (λ c κs. search rules) (λ c. search rules) returns)

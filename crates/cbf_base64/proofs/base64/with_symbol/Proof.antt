@@ -6,23 +6,23 @@ use borrow.Author.Rules.{rules}
 use Rattle.cbf_base64.proofs.base64.with_symbol.Statement.{statement}
 use Rattle.cbf_base64.proofs.base64.with_symbol.Tie as tie
 
-returns : tie.Need-returns
+returns : tie.Need-returns-then-g-eq0
 returns c = letter-whole c.before.before.before.before.before.before.args.g
-    c.before.before.before.before.s.given.0.0 c.before.if1.true
+    c.before.before.before.before.s-1.given.0.0 c.before.if-g-eq0.true
     ∙ ap (add_symbol_to c.before.before.before.before.before.before.args.g)
-    (sym c.before.before.before.before.s.given.1)
+    (sym c.before.before.before.before.s-1.given.1)
 
-returns-2 : tie.Need-returns-2
+returns-2 : tie.Need-returns-else-g-eq0
 returns-2 c = letter-broken c.before.before.before.before.before.before.args.g
-    c.before.before.before.before.s.given.0.0 c.before.if1.false
+    c.before.before.before.before.s-1.given.0.0 c.before.if-g-eq0.false
     ∙ ap (add_symbol_to c.before.before.before.before.before.before.args.g)
-    (sym c.before.before.before.before.s.given.1)
+    (sym c.before.before.before.before.s-1.given.1)
 
-returns-3 : tie.Need-returns-3
-returns-3 c = ap (add_symbol_to c.before.before.before.args.g) (sym c.before.enum_told.given.1)
+returns-3 : tie.Need-returns-in-Pad
+returns-3 c = ap (add_symbol_to c.before.before.before.args.g) (sym c.before.enum_told-1.given.1)
 
-pub with-symbol-spec : {M : Type 1} → statement M
-with-symbol-spec =
+pub with_symbol_spec : {M : Type 1} → statement M
+with_symbol_spec =
     tie.close
     (tie.spec
     (λ c. search rules) (λ c. search rules) returns (λ c. search rules) (λ c. search rules)

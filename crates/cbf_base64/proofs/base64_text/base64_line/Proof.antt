@@ -10,74 +10,74 @@ use Rattle.cbf_base64.proofs.Base64TextLaws.{line-closing, line-symbols, line_re
 use Rattle.cbf_base64.proofs.base64_text.base64_line.Statement.{statement}
 use Rattle.cbf_base64.proofs.base64_text.base64_line.Tie as tie
 
-returns : tie.Need-returns
+returns : tie.Need-returns-in-At
 returns c =
     let a = c.before.before.before.before.before.args in
-    let g = c.before.close.given in
-    (line-closing a.file.now a.at a.limit a.g g.0.0 (sym g.1 ∙ c.before.before.before.closing-line.ensures), omega arith)
+    let g = c.before.close-1.given in
+    (line-closing a.file.now a.at a.limit a.g g.0.0 (sym g.1 ∙ c.before.before.before.closing_line-close.ensures), omega arith)
 
-text-symbols-requires : tie.Need-text-symbols-requires
+text-symbols-requires : tie.Need-text_symbols-s-requires
 text-symbols-requires c κs =
     let s = c.before.before.before.before.before in
     let a = s.args in
     let f = far a.at a.limit (length a.file.now) c.farthest.result c.farthest.ensures s.requires.0 in
     (f.low, f.high, omega arith, omega (arith, f.high))
 
-ended-requires : tie.Need-ended-requires
+ended-requires : tie.Need-ended-end-requires
 ended-requires c κs =
     let s = c.before.before.before.before.before.before.before in
     let a = s.args in
     let q = c.before.before.farthest in
     let f = far a.at a.limit (length a.file.now) q.result q.ensures s.requires.0 in
-    omega (arith, f.high, c.before.text-symbols.ensures.run.high)
+    omega (arith, f.high, c.before.text_symbols-s.ensures.run.high)
 
-shared-slice-read-refused-number : tie.Need-shared-slice-read-refused-number
+shared-slice-read-refused-number : tie.Need-bounds-file-to
 shared-slice-read-refused-number c =
     let s = c.before.before.before.before.before.before.before.before.before.before.before in
     let a = s.args in
     let q = c.before.before.before.before.before.before.farthest in
     let f = far a.at a.limit (length a.file.now) q.result q.ensures s.requires.0 in
-    let r = c.before.before.before.before.before.text-symbols.ensures.run in
-    (ended-not a.file.now c.before.before.before.before.before.text-symbols.result.to (omega (arith, f.high, r.high))
-    (sym c.before.enum-told2.given.1 ∙ c.before.before.before.ended.ensures)).byte
+    let r = c.before.before.before.before.before.text_symbols-s.ensures.run in
+    (ended-not a.file.now c.before.before.before.before.before.text_symbols-s.result.to (omega (arith, f.high, r.high))
+    (sym c.before.enum_told-in-Missing-end-1.given.1 ∙ c.before.before.before.ended-end.ensures)).byte
 
-sub-refused-number : tie.Need-overflow-sub-refused-number
-sub-refused-number c = omega (arith, c.before.before.before.before.before.text-symbols.ensures.run.low)
+sub-refused-number : tie.Need-overflow_sub-to
+sub-refused-number c = omega (arith, c.before.before.before.before.before.text_symbols-s.ensures.run.low)
 
-returns-2 : tie.Need-returns-2
+returns-2 : tie.Need-returns-in-At-end
 returns-2 c =
     let s = c.before.before.before.before.before.before.before.before.before.before.before in
     let a = s.args in
     let file = a.file.now in
     let q = c.before.before.before.before.before.before.farthest in
     let f = far a.at a.limit (length file) q.result q.ensures s.requires.0 in
-    let t = c.before.before.before.before.before.text-symbols in
-    let m = sym c.before.before.before.before.before.before.before.enum_told.given.1
-    ∙ c.before.before.before.before.before.before.before.before.before.closing-line.ensures in
-    let g = c.before.end.given in
-    let e = sym g.1 ∙ c.before.before.before.ended.ensures in
+    let t = c.before.before.before.before.before.text_symbols-s in
+    let m = sym c.before.before.before.before.before.before.before.enum_told-1.given.1
+    ∙ c.before.before.before.before.before.before.before.before.before.closing_line-close.ensures in
+    let g = c.before.end-1.given in
+    let e = sym g.1 ∙ c.before.before.before.ended-end.ensures in
     let v = ended_at_lem file t.result.to (omega (arith, f.high, t.ensures.run.high)) e in (
       line-symbols file a.at a.limit a.g f t.ensures.run m t.result.groups g.0.0
           t.ensures.added e,
       omega (arith, v.place, t.ensures.most),
     )
 
-returns-3 : tie.Need-returns-3
+returns-3 : tie.Need-returns-in-Missing-end
 returns-3 c =
     let s = c.before.before.before.before.before.before.before.before.before.before.before.before in
     let a = s.args in
     let file = a.file.now in
     let q = c.before.before.before.before.before.before.before.farthest in
     let f = far a.at a.limit (length file) q.result q.ensures s.requires.0 in
-    let t = c.before.before.before.before.before.before.text-symbols in
-    let m = sym c.before.before.before.before.before.before.before.before.enum_told.given.1
-    ∙ c.before.before.before.before.before.before.before.before.before.before.closing-line.ensures in
-    let e = sym c.before.before.enum-told2.given.1 ∙ c.before.before.before.before.ended.ensures in
-    (line_refused file a.at a.limit a.g f t.ensures.run m e c.refused-number.result c.refused-number.ensures, omega arith)
+    let t = c.before.before.before.before.before.before.text_symbols-s in
+    let m = sym c.before.before.before.before.before.before.before.before.enum_told-1.given.1
+    ∙ c.before.before.before.before.before.before.before.before.before.before.closing_line-close.ensures in
+    let e = sym c.before.before.enum_told-in-Missing-end-1.given.1 ∙ c.before.before.before.before.ended-end.ensures in
+    (line_refused file a.at a.limit a.g f t.ensures.run m e c.refused_number-number.result c.refused_number-number.ensures, omega arith)
 
-pub base64-line-spec : {M : Type 1} → statement M
-base64-line-spec =
-    tie.close
+pub base64_line_spec : {M : Type 1} → statement M
+base64_line_spec =
+    tie.close-1
     (tie.spec
     (λ c κs. search rules) (λ c. search rules) returns (λ c. search rules) (λ c κs. search rules)
     text-symbols-requires ended-requires (λ c. search rules) (λ c. search rules)

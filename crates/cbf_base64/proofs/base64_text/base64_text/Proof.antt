@@ -11,69 +11,69 @@ use Rattle.cbf_base64.proofs.Base64TextLaws.{passed-all}
 use Rattle.cbf_base64.proofs.base64_text.base64_text.Statement.{statement}
 use Rattle.cbf_base64.proofs.base64_text.base64_text.Tie as tie
 
-abbrev invariant-loop : tie.invariant-loop
+abbrev invariant-loop : tie.invariant-loop-next
 invariant-loop file at limit g₀ next₀ g next = Passed file at limit next g
 
-abbrev decreases-loop : tie.decreases-loop
+abbrev decreases-loop : tie.decreases-loop-next
 decreases-loop file at limit g₀ next₀ g next = length file - next
 
-loop-holds : tie.Need-loop-init invariant-loop decreases-loop
+loop-holds : tie.Need-loop-next-init invariant-loop decreases-loop
 loop-holds c =
     let s = c.before.before in
-    passed_none s.args.file.now s.args.at s.args.limit c.no-groups.result c.no-groups.ensures s.requires.0 s.requires.1
+    passed_none s.args.file.now s.args.at s.args.limit c.no_groups-g.result c.no_groups-g.ensures s.requires.0 s.requires.1
 
-base64-line-requires : tie.Need-base64-line-requires invariant-loop decreases-loop
-base64-line-requires c κs = let l = c.before.loop.invariant in (l.high, c.before.before.before.before.requires.1, l.few)
+base64-line-requires : tie.Need-base64_line-l-requires invariant-loop decreases-loop
+base64-line-requires c κs = let l = c.before.loop-next.invariant in (l.high, c.before.before.before.before.requires.1, l.few)
 
-returns : tie.Need-returns invariant-loop decreases-loop
+returns : tie.Need-returns-in-Refused invariant-loop decreases-loop
 returns c =
-    let l = c.before.before.before.before.before.loop in
+    let l = c.before.before.before.before.before.loop-next in
     let a = c.before.before.before.before.before.before.before.before.args in
-    let g = c.before.l.given in (
+    let g = c.before.l-1.given in (
       passed-refused a.file.now a.at a.limit l.next l.g l.invariant (omega arith) g.0.0 (sym g.1
-          ∙ c.before.before.before.base64-line.ensures.0),
+          ∙ c.before.before.before.base64_line-l.ensures.0),
       omega arith,
     )
 
-returns-2 : tie.Need-returns-2 invariant-loop decreases-loop
+returns-2 : tie.Need-returns-in-Closing invariant-loop decreases-loop
 returns-2 c =
-    let l = c.before.before.before.before.before.loop in
+    let l = c.before.before.before.before.before.loop-next in
     let s = c.before.before.before.before.before.before.before.before in
     let a = s.args in
-    let g = c.before.l2.given in (
+    let g = c.before.l-in-Closing-1.given in (
       passed-closing a.file.now a.at a.limit l.next l.g l.invariant (omega arith) g.0.0 (sym g.1
-          ∙ c.before.before.before.base64-line.ensures.0),
+          ∙ c.before.before.before.base64_line-l.ensures.0),
       omega (arith, l.invariant.few, l.invariant.high, s.requires.1),
     )
 
-loop-less : tie.Need-loop-smaller invariant-loop decreases-loop
+loop-less : tie.Need-loop-next-smaller invariant-loop decreases-loop
 loop-less c =
-    let l = c.before.before.before.before.before.loop in
+    let l = c.before.before.before.before.before.loop-next in
     let a = c.before.before.before.before.before.before.before.before.args in
-    let g = c.before.l3.given in
-    let b = c.before.before.before.base64-line in
+    let g = c.before.l-in-Text-1.given in
+    let b = c.before.before.before.base64_line-l in
     let p = passed-text a.file.now a.at a.limit l.next l.g l.invariant (omega arith) g.0.0 g.0.1.0
     (sym g.1 ∙ b.ensures.0) (subst FewOfLine g.1 b.ensures.1) in
     omega (arith, p.1, p.0.high)
 
-loop-again : tie.Need-loop-preserved invariant-loop decreases-loop
+loop-again : tie.Need-loop-next-preserved invariant-loop decreases-loop
 loop-again c =
-    let l = c.before.before.before.before.before.loop in
+    let l = c.before.before.before.before.before.loop-next in
     let a = c.before.before.before.before.before.before.before.before.args in
-    let g = c.before.l3.given in
-    let b = c.before.before.before.base64-line in
+    let g = c.before.l-in-Text-1.given in
+    let b = c.before.before.before.base64_line-l in
     let p = passed-text a.file.now a.at a.limit l.next l.g l.invariant (omega arith) g.0.0 g.0.1.0
     (sym g.1 ∙ b.ensures.0) (subst FewOfLine g.1 b.ensures.1) in
     p.0
 
-returns-3 : tie.Need-returns-3 invariant-loop decreases-loop
+returns-3 : tie.Need-returns invariant-loop decreases-loop
 returns-3 c =
-    let l = c.before.loop in
+    let l = c.before.loop-next in
     let a = c.before.before.before.before.args in
     (passed-all a.file.now a.at a.limit l.next l.g l.invariant (omega arith), omega arith)
 
-pub base64-text-spec : {M : Type 1} → statement M
-base64-text-spec =
+pub base64_text_spec : {M : Type 1} → statement M
+base64_text_spec =
     tie.close
     (tie.spec
     invariant-loop decreases-loop (λ c κs. search rules) loop-holds base64-line-requires (λ c. search rules) returns

@@ -8,24 +8,24 @@ use Rattle.cbf_base64.proofs.Base64TextLaws.{closing-short, closing-other, closi
 use Rattle.cbf_base64.proofs.base64_text.closing_line.Statement.{statement}
 use Rattle.cbf_base64.proofs.base64_text.closing_line.Tie as tie
 
-returns : tie.Need-returns
-returns c = let s = c.before.before in closing-short s.args.file.now s.args.at s.requires c.if1.true
+returns : tie.Need-returns-then-file-at-lt-CLOSING_LENGTH
+returns c = let s = c.before.before in closing-short s.args.file.now s.args.at s.requires c.if-file-at-lt-CLOSING_LENGTH.true
 
-returns-2 : tie.Need-returns-2
+returns-2 : tie.Need-returns-then-not-is_word
 returns-2 c =
     let s = c.before.before.before.before.before in
-    closing-other s.args.file.now s.args.at s.requires (sym c.before.is_IsWord.ensures ∙ not-true c.before.is_IsWord.result c.if2.true)
+    closing-other s.args.file.now s.args.at s.requires (sym c.before.is_word.ensures ∙ not-true c.before.is_word.result c.if-not-is_word.true)
 
-returns-3 : tie.Need-returns-3
+returns-3 : tie.Need-returns
 returns-3 c =
     let s = c.before.before.before.before.before.before in
-    let w = c.before.before.is_IsWord in
+    let w = c.before.before.is_word in
     closing-ended s.args.file.now s.args.at s.requires (s.args.at + 31) refl (omega arith) (sym w.ensures
-    ∙ not-false w.result c.before.if2.false) c.ended.result c.ended.ensures
+    ∙ not-false w.result c.before.if-not-is_word.false) c.ended.result c.ended.ensures
 
-pub closing-line-spec : {M : Type 1} → statement M
-closing-line-spec =
+pub closing_line_spec : {M : Type 1} → statement M
+closing_line_spec =
     tie.close
     (tie.spec
-    (λ c. search rules) returns (λ c. search rules) (λ c. search rules) (λ c κs. search rules) returns-2
-    (λ c κs. search rules) returns-3)
+
+    (λ c. search rules) returns (λ c. search rules) (λ c κs. search rules) returns-2 (λ c κs. search rules) returns-3)

@@ -6,20 +6,20 @@ use native.Mathlib.Omega.{arith}
 use Rattle.cbf_base64.proofs.base64_text.refused_number.Statement.{statement}
 use Rattle.cbf_base64.proofs.base64_text.refused_number.Tie as tie
 
-returns : tie.Need-returns
-returns c = rw (sym c.before.textual.ensures ∙ not-true c.before.textual.result c.if1.true)
+returns : tie.Need-returns-then-not-textual
+returns c = rw (sym c.before.textual.ensures ∙ not-true c.before.textual.result c.if-not-textual.true)
 
-returns-2 : tie.Need-returns-2
+returns-2 : tie.Need-returns-then-column-limit
 returns-2 c =
     let a = c.before.before.before.args in
     let t = c.before.before.textual in
-    rw (sym t.ensures ∙ not-false t.result c.before.if1.false, lt-ltb a.column a.limit c.if2.true)
+    rw (sym t.ensures ∙ not-false t.result c.before.if-not-textual.false, lt-ltb a.column a.limit c.if-column-limit.true)
 
-returns-3 : tie.Need-returns-3
+returns-3 : tie.Need-returns
 returns-3 c =
     let a = c.before.before.before.args in
     let t = c.before.before.textual in
-    rw (sym t.ensures ∙ not-false t.result c.before.if1.false, le-ltb a.column a.limit (omega arith))
+    rw (sym t.ensures ∙ not-false t.result c.before.if-not-textual.false, le-ltb a.column a.limit (omega arith))
 
-pub refused-number-spec : {M : Type 1} → statement M
-refused-number-spec = tie.close (tie.spec (λ c κs. search rules) returns returns-2 returns-3)
+pub refused_number_spec : {M : Type 1} → statement M
+refused_number_spec = tie.close (tie.spec (λ c κs. search rules) returns returns-2 returns-3)

@@ -5,31 +5,31 @@ use Rattle.cbf_reader.specs.Walk.{StartSays}
 use Rattle.cbf_catalogue.proofs.entries.entries.Statement.{statement}
 use Rattle.cbf_catalogue.proofs.entries.entries.Tie as tie
 
-entries-from-requires : tie.Need-entries-from-requires
+entries-from-requires : tie.Need-entries_from-requires
 entries-from-requires c κs =
     let s = c.before.before.before.before.before.before.before in
     let a = s.args in
-    let says = subst (StartSays a.limit a.file.now) c.before.before.started2.given.1
-    (c.before.before.before.before.begin.ensures a.limit) in
+    let says = subst (StartSays a.limit a.file.now) c.before.before.started-in-At-1.given.1
+    (c.before.before.before.before.begin-started.ensures a.limit) in
     (says.0, says.2, says.3, rw says.1 at s.requires)
 
-returns : tie.Need-returns
+returns : tie.Need-returns-in-Refused
 returns c =
     let s = c.before.before.before.before.before.before in
     let a = s.args in
-    let says = subst (StartSays a.limit a.file.now) c.before.started.given.1 (c.before.before.before.begin.ensures a.limit) in
+    let says = subst (StartSays a.limit a.file.now) c.before.started-1.given.1 (c.before.before.before.begin-started.ensures a.limit) in
     rw says (refl, refl)
 
-returns-2 : tie.Need-returns-2
+returns-2 : tie.Need-returns-in-At
 returns-2 c =
     let m = c.before.before in
     let b = m.before.before.before in
     let a = b.before.before.before.before.before.args in
-    let says = subst (StartSays a.limit a.file.now) b.started2.given.1 (b.before.before.begin.ensures a.limit) in
+    let says = subst (StartSays a.limit a.file.now) b.started-in-At-1.given.1 (b.before.before.begin-started.ensures a.limit) in
     rw says.1 m.entries_from.ensures
 
-pub entries-spec : {M : Type 1} → statement M
-entries-spec =
+pub entries_spec : {M : Type 1} → statement M
+entries_spec =
     tie.close
     (tie.spec
     (λ c κs. search rules) (λ c. search rules) (λ c. search rules) entries-from-requires returns

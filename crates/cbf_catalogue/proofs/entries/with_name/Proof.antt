@@ -6,18 +6,18 @@ use Rattle.cbf_format.specs.Catalogue.{label_width}
 use Rattle.cbf_catalogue.proofs.entries.with_name.Statement.{statement}
 use Rattle.cbf_catalogue.proofs.entries.with_name.Tie as tie
 
-returns : tie.Need-returns
-returns c = let a = c.before.before.args in rw (le-leb (a.block.to - a.block.from) label_width c.if1.true)
+returns : tie.Need-returns-then-block-le-LABEL_WIDTH
+returns c = let a = c.before.before.args in rw (le-leb (a.block.to - a.block.from) label_width c.if-block-le-LABEL_WIDTH.true)
 
-returns-2 : tie.Need-returns-2
+returns-2 : tie.Need-returns-then-found-from
 returns-2 c =
     let a = c.before.before.before.args in
-    rw (lt-leb (a.block.to - a.block.from) label_width c.before.if1.false, lt-ltb a.found a.from c.if2.true)
+    rw (lt-leb (a.block.to - a.block.from) label_width c.before.if-block-le-LABEL_WIDTH.false, lt-ltb a.found a.from c.if-found-from.true)
 
-returns-3 : tie.Need-returns-3
+returns-3 : tie.Need-returns-else-found-from
 returns-3 c =
     let a = c.before.before.before.args in
-    rw (lt-leb (a.block.to - a.block.from) label_width c.before.if1.false, le-ltb a.found a.from c.if2.false)
+    rw (lt-leb (a.block.to - a.block.from) label_width c.before.if-block-le-LABEL_WIDTH.false, le-ltb a.found a.from c.if-found-from.false)
 
-pub with-name-spec : {M : Type 1} → statement M
-with-name-spec = tie.close (tie.spec (λ c. search rules) returns returns-2 returns-3)
+pub with_name_spec : {M : Type 1} → statement M
+with_name_spec = tie.close (tie.spec (λ c. search rules) returns returns-2 returns-3)

@@ -6,13 +6,13 @@ use Rattle.cbf_catalogue.proofs.entry.kinds.Tie as tie
 
 returns : tie.Need-returns
 returns c =
-    let p = c.before.before.compression-number in
-    let q = c.before.type-number in
-    let r = c.encoding-number in
+    let p = c.before.before.compression_number-low in
+    let q = c.before.type_number-middle in
+    let r = c.encoding_number-high in
     rw (← p.ensures, ← q.ensures, ← r.ensures) (octets-three p.result q.result r.result (search rules) (search rules) (search rules))
 
-pub kinds-spec : {M : Type 1} → statement M
-kinds-spec =
+pub kinds_spec : {M : Type 1} → statement M
+kinds_spec =
     tie.close
     (tie.spec
     (λ c κs. search rules) (λ c. search rules) (λ c κs. search rules) (λ c. search rules)

@@ -13,20 +13,20 @@ returns c =
     let a = c.before.before.before.before.before.before.before.before.before.before.before.before.before.before.before.before.before.args in
     let t = a.section in
     let d = t.description in
-    let k = c.before.before.before.before.before.before.before.before.before.before.before.before.kinds in
-    let p = c.before.before.before.before.before.before.before.before.before.before.put_four in
-    let q = c.before.before.before.before.before.before.put-four2 in
-    let name = slice t.block.from t.block.to a.file.now in
+    let k = c.before.before.before.before.before.before.before.before.before.before.before.before.kinds-numbers in
+    let p = c.before.before.before.before.before.before.before.before.before.before.put_four-after_kinds in
+    let q = c.before.before.before.before.before.before.put_four-after_numbers in
+    let name = slice t.block-1.from t.block-1.to a.file.now in
     let first = four_numbers t.first d.size d.elements k.result in
     let second = four_numbers d.id d.fastest d.second d.third in
     rw (entry-pieces t.first d.size d.elements d.compression d.kind d.encoding d.id d.fastest
     d.second d.third name k.result k.ensures)
     (both-written a.out.now a.at first (second ++ label name) 48 (length-four t.first d.size d.elements k.result) p.ensures
     (both-written p.new.0 p.result second (label name) 32 (length-four d.id d.fastest d.second
-    d.third) q.ensures c.before.before.put-label.ensures))
+    d.third) q.ensures c.before.before.put_label.ensures))
 
-pub put-entry-spec : {M : Type 1} → statement M
-put-entry-spec =
+pub put_entry_spec : {M : Type 1} → statement M
+put_entry_spec =
     tie.close
     (tie.spec
     (λ c κs. search rules) (λ c κs. search rules) (λ c κs. search rules) (λ c κs. search rules)

@@ -10,16 +10,16 @@ use Rattle.cbf_catalogue.proofs.entry.put_four.Tie as tie
 returns : tie.Need-returns
 returns c =
     let s = c.before.before.before.before.before.before.before.before.before.before.before.before.before.before.before.before.before.args in
-    let p = c.before.before.before.before.before.before.before.before.before.before.before.before.before.before.put-little in
-    let q = c.before.before.before.before.before.before.before.before.before.before.put-little2 in
-    let r = c.before.before.before.before.before.before.put-little3 in
+    let p = c.before.before.before.before.before.before.before.before.before.before.before.before.before.before.put_little-after_a in
+    let q = c.before.before.before.before.before.before.before.before.before.before.put_little-after_b in
+    let r = c.before.before.before.before.before.before.put_little-after_c in
     both-written s.out.now s.at (octets 4 s.a) (octets 4 s.b ++ (octets 4 s.c ++ octets 4 s.d)) 12 (length-octets 4 s.a) p.ensures
     (both-written p.new.0 p.result (octets 4 s.b) (octets 4 s.c ++ octets 4 s.d) 8 (length-octets 4 s.b) q.ensures
     (both-written q.new.0 q.result (octets 4 s.c) (octets 4 s.d) 4 (length-octets 4 s.c) r.ensures
-    c.before.before.put-little4.ensures))
+    c.before.before.put_little.ensures))
 
-pub put-four-spec : {M : Type 1} → statement M
-put-four-spec =
+pub put_four_spec : {M : Type 1} → statement M
+put_four_spec =
     tie.close
     (tie.spec
     (λ c κs. search rules) (λ c κs. search rules) (λ c κs. search rules) (λ c κs. search rules)

@@ -20,15 +20,15 @@ returns c =
     let file = a.file.now in
     let name = slice a.from a.to file in
     let part = slice-part file a.from a.to s.requires.0 s.requires.1 in (
-      z.put-zeros.ensures.0,
-      c.before.before.put-short.ensures
-          ∙ ap (λ (l : List ℕ). sets l a.at (take (a.to - a.from) (drop a.from file))) z.put-zeros.ensures.1
+      z.put_zeros-end.ensures.0,
+      c.before.before.put_short.ensures
+          ∙ ap (λ (l : List ℕ). sets l a.at (take (a.to - a.from) (drop a.from file))) z.put_zeros-end.ensures.1
           ∙ ap (sets (sets a.out.now a.at (zeros label_width)) a.at) (sym part)
           ∙ label-over a.out.now name a.at (omega (arith, length-slice a.from a.to file s.requires.1, s.requires.2)),
     )
 
-pub put-label-spec : {M : Type 1} → statement M
-put-label-spec =
+pub put_label_spec : {M : Type 1} → statement M
+put_label_spec =
     tie.close
     (tie.spec
     (λ c κs. search rules) (λ c. search rules) (λ c. search rules) (λ c. search rules) (λ c κs. search rules)

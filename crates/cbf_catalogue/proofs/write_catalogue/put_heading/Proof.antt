@@ -12,10 +12,11 @@ returns c =
     let t2 = c.before.before in
     let t1 = t2.before.before.before.before in
     let a = t1.before.before.before.before.args in
-    heading-put a.out.now a.count t1.put-text.ensures t2.put-little.ensures
+    heading-put a.out.now a.count t1.put_text-after_version.ensures t2.put_little.ensures
 
-pub put-heading-spec : {M : Type 1} → statement M
-put-heading-spec =
+pub put_heading_spec : {M : Type 1} → statement M
+put_heading_spec =
     tie.close
     (tie.spec
-    (λ c. search rules) (λ c κs. search rules) (λ c κs. search rules) (λ c. search rules) returns)
+
+    (λ c κs. search rules) (λ c κs. search rules) (λ c. search rules) returns)

@@ -6,8 +6,8 @@ use Rattle.cbf_headers.proofs.DescribeLaws.{positive}
 use Rattle.cbf_headers.proofs.describe.compression.Statement.{statement}
 use Rattle.cbf_headers.proofs.describe.compression.Tie as tie
 
-returns-2 : tie.Need-returns-2
-returns-2 c = sym (ap compression_of (positive c.if1.false))
+returns-2 : tie.Need-returns
+returns-2 c = sym (ap compression_of (positive c.if-number-eq0.false))
 
-pub compression-spec : {M : Type 1} → statement M
-compression-spec = tie.close (tie.spec (λ c. search rules) returns-2)
+pub compression_spec : {M : Type 1} → statement M
+compression_spec = tie.close (tie.spec (λ c. search rules) returns-2)

@@ -8,41 +8,41 @@ use Rattle.cbf_headers.proofs.DescribeLaws.{absent, there, found_at}
 use Rattle.cbf_headers.proofs.describe.describe.Statement.{statement}
 use Rattle.cbf_headers.proofs.describe.describe.Tie as tie
 
-returns : tie.Need-returns
+returns : tie.Need-returns-then-needed_encoding-eq0
 unfolding described_by
-returns c fs e = rw (absent (look TransferEncoding fs) (found_at fs TransferEncoding e) c.if1.true)
+returns c fs e = rw (absent (look TransferEncoding fs) (found_at fs TransferEncoding e) c.if-needed_encoding-eq0.true)
 
-returns-2 : tie.Need-returns-2
+returns-2 : tie.Need-returns-then-needed_size-eq0
 unfolding described_by
 returns-2 c fs e = rw (
-  there (look TransferEncoding fs) (found_at fs TransferEncoding e) c.before.if1.false,
-  absent (look Size fs) (found_at fs Size e) c.if2.true,
+  there (look TransferEncoding fs) (found_at fs TransferEncoding e) c.before.if-needed_encoding-eq0.false,
+  absent (look Size fs) (found_at fs Size e) c.if-needed_size-eq0.true,
 )
 
-returns-3 : tie.Need-returns-3
+returns-3 : tie.Need-returns-then-needed_elements-eq0
 unfolding described_by
 returns-3 c fs e = rw (
-  there (look TransferEncoding fs) (found_at fs TransferEncoding e) c.before.before.if1.false,
-  there (look Size fs) (found_at fs Size e) c.before.if2.false,
-  absent (look Elements fs) (found_at fs Elements e) c.if3.true,
+  there (look TransferEncoding fs) (found_at fs TransferEncoding e) c.before.before.if-needed_encoding-eq0.false,
+  there (look Size fs) (found_at fs Size e) c.before.if-needed_size-eq0.false,
+  absent (look Elements fs) (found_at fs Elements e) c.if-needed_elements-eq0.true,
 )
 
-description-of-requires : tie.Need-description-of-requires
+description-of-requires : tie.Need-description_of-requires
 description-of-requires c κs =
     let r = c.before.before.before.requires in
     (r, omega (arith, r.most Size), omega (arith, r.most Elements))
 
-returns-4 : tie.Need-returns-4
+returns-4 : tie.Need-returns
 returns-4 c fs e =
     rw (
-      there (look TransferEncoding fs) (found_at fs TransferEncoding e) c.before.before.before.if1.false,
-      there (look Size fs) (found_at fs Size e) c.before.before.if2.false,
-      there (look Elements fs) (found_at fs Elements e) c.before.if3.false,
+      there (look TransferEncoding fs) (found_at fs TransferEncoding e) c.before.before.before.if-needed_encoding-eq0.false,
+      there (look Size fs) (found_at fs Size e) c.before.before.if-needed_size-eq0.false,
+      there (look Elements fs) (found_at fs Elements e) c.before.if-needed_elements-eq0.false,
     )
-    (c.description-of.ensures fs e)
+    (c.description_of.ensures fs e)
 
-pub describe-spec : {M : Type 1} → statement M
-describe-spec =
+pub describe_spec : {M : Type 1} → statement M
+describe_spec =
     tie.close
     (tie.spec
     returns returns-2 returns-3 (λ c. search rules) (λ c. search rules) (λ c. search rules)

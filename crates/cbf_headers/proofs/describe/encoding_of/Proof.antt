@@ -6,8 +6,8 @@ use Rattle.cbf_headers.proofs.DescribeLaws.{positive}
 use Rattle.cbf_headers.proofs.describe.encoding_of.Statement.{statement}
 use Rattle.cbf_headers.proofs.describe.encoding_of.Tie as tie
 
-returns-2 : tie.Need-returns-2
-returns-2 c = sym (ap encoding_of (positive c.if1.false))
+returns-2 : tie.Need-returns
+returns-2 c = sym (ap encoding_of (positive c.if-number-eq0.false))
 
-pub encoding-of-spec : {M : Type 1} → statement M
-encoding-of-spec = tie.close (tie.spec (λ c. search rules) returns-2)
+pub encoding_of_spec : {M : Type 1} → statement M
+encoding_of_spec = tie.close (tie.spec (λ c. search rules) returns-2)

@@ -6,20 +6,20 @@ use Rattle.cbf_headers.proofs.DescribeLaws.{product-fits}
 use Rattle.cbf_headers.proofs.describe.size_agrees.Statement.{statement}
 use Rattle.cbf_headers.proofs.describe.size_agrees.Tie as tie
 
-mul-result : tie.Need-overflow-mul-result
-mul-result c = product-fits c.before.before.before.requires.1 c.octets-per.ensures.1 (omega arith)
+mul-result : tie.Need-overflow_mul-result
+mul-result c = product-fits c.before.before.before.requires.1 c.octets_per.ensures.1 (omega arith)
 
-returns : tie.Need-returns
-returns c = rw (c.before.enum-told2.given.1, lt-leb _ _ c.if1.true)
+returns : tie.Need-returns-then-size-elements
+returns c = rw (c.before.enum_told-in-ByteOffset-1.given.1, lt-leb _ _ c.if-size-elements.true)
 
-returns-2 : tie.Need-returns-2
-returns-2 c = rw (c.before.enum_told.given.1, c.octets-per.ensures.0)
+returns-2 : tie.Need-returns-in-Uncompressed
+returns-2 c = rw (c.before.enum_told-1.given.1, c.octets_per.ensures.0)
 
-returns-3 : tie.Need-returns-3
-returns-3 c = rw (c.before.enum-told2.given.1, le-leb _ _ c.if1.false)
+returns-3 : tie.Need-returns-else-size-elements
+returns-3 c = rw (c.before.enum_told-in-ByteOffset-1.given.1, le-leb _ _ c.if-size-elements.false)
 
-pub size-agrees-spec : {M : Type 1} → statement M
-size-agrees-spec =
+pub size_agrees_spec : {M : Type 1} → statement M
+size_agrees_spec =
     tie.close
     (tie.spec
     (λ c. search rules) (λ c κs. search rules) mul-result (λ c. search rules) returns (λ c. search rules)

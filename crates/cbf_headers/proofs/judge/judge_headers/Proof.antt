@@ -10,110 +10,110 @@ use Rattle.cbf_headers.proofs.JudgeLaws.{judging-other, judging-repeated, judgin
 use Rattle.cbf_headers.proofs.judge.judge_headers.Statement.{statement}
 use Rattle.cbf_headers.proofs.judge.judge_headers.Tie as tie
 
-abbrev invariant-loop : tie.invariant-loop
+abbrev invariant-loop : tie.invariant-loop-at
 invariant-loop file from empty values₀ at₀ values at = Judging file from empty at values
 
-abbrev decreases-loop : tie.decreases-loop
+abbrev decreases-loop : tie.decreases-loop-at
 decreases-loop file from empty values₀ at₀ values at = empty - at
 
-abbrev start : tie.In-loop invariant-loop decreases-loop → tie.Start invariant-loop decreases-loop
+abbrev start : tie.In-loop-at invariant-loop decreases-loop → tie.Start invariant-loop decreases-loop
 start c = c.before.before.before.before
 
 -- the headers that are left
-headers-at : (c : tie.In-loop invariant-loop decreases-loop) → HeadersHere (start c).args.file.now c.before.loop.at (start c).args.empty
-headers-at c = (c.before.loop.invariant.left (start c).requires).on
+headers-at : (c : tie.In-loop-at invariant-loop decreases-loop) → HeadersHere (start c).args.file.now c.before.loop-at.at (start c).args.empty
+headers-at c = (c.before.loop-at.invariant.left (start c).requires).on
 
-inside : (c : tie.In-loop invariant-loop decreases-loop) → (start c).args.empty < length (start c).args.file.now
+inside : (c : tie.In-loop-at invariant-loop decreases-loop) → (start c).args.empty < length (start c).args.file.now
 inside c = headers-inside (headers-at c)
 
 -- the parts of the first of them
-parts_at : (c : tie.After-header-parts invariant-loop decreases-loop)
+parts_at : (c : tie.After-header_parts-parts invariant-loop decreases-loop)
     → let a = (start c.before).args in
-    HeaderParts a.file.now c.before.before.loop.at a.empty (headers-at c.before) c.header-parts.result
-parts_at c = c.header-parts.ensures (headers-at c.before)
+    HeaderParts a.file.now c.before.before.loop-at.at a.empty (headers-at c.before) c.header_parts-parts.result
+parts_at c = c.header_parts-parts.ensures (headers-at c.before)
 
 -- where its name is a known one
-abbrev parts-of : tie.After-known-told invariant-loop decreases-loop → tie.After-header-parts invariant-loop decreases-loop
+abbrev parts-of : tie.In-Known invariant-loop decreases-loop → tie.After-header_parts-parts invariant-loop decreases-loop
 parts-of k = k.before.before.before.before
 
-loop-holds : tie.Need-loop-init invariant-loop decreases-loop
-loop-holds c = let a = c.before.before.args in judging-none a.file.now a.from a.empty c.nothing.ensures
+loop-holds : tie.Need-loop-at-init invariant-loop decreases-loop
+loop-holds c = let a = c.before.before.args in judging-none a.file.now a.from a.empty c.nothing-values.ensures
 
-header-parts-requires : tie.Need-header-parts-requires invariant-loop decreases-loop
-header-parts-requires c κs = (headers-at c, c.loop-test.true)
+header-parts-requires : tie.Need-header_parts-parts-requires invariant-loop decreases-loop
+header-parts-requires c κs = (headers-at c, c.loop-at-test.true)
 
-known-requires : tie.Need-known-requires invariant-loop decreases-loop
+known-requires : tie.Need-known-name-requires invariant-loop decreases-loop
 known-requires c κs = let p = parts_at c in (p.name_in, omega (arith, p.value_in, p.to_in, p.next_in, inside c.before))
 
-returns : tie.Need-returns invariant-loop decreases-loop
+returns : tie.Need-returns-then-field-ne0 invariant-loop decreases-loop
 returns c =
     let k = c.before.before in
     let p = parts-of k in
-    let i = p.before.before.loop.inv in (
-      judging-repeated i p.header-parts.ensures k.before.before.before.known.ensures k.before.name.given.1
-          (λ z. omega (arith, c.if1.true, c.before.field.ensures)),
+    let i = p.before.before.loop-at.invariant in (
+      judging-repeated i p.header_parts-parts.ensures k.before.before.before.known-name.ensures k.before.name-1.given.1
+          (λ z. omega (arith, c.if-field-ne0.true, c.before.field.ensures)),
       i.range,
     )
 
-add-known-value : tie.Need-overflow-add-known-value invariant-loop decreases-loop
+add-known-value : tie.Need-overflow_add-colon invariant-loop decreases-loop
 add-known-value c =
     let m = parts-of c.before.before in
     let p = parts_at m in
     omega (arith, p.value_in, p.to_in, p.next_in, inside m.before)
 
-known-value-requires : tie.Need-known-value-requires invariant-loop decreases-loop
+known-value-requires : tie.Need-known_value-v-requires invariant-loop decreases-loop
 known-value-requires c κs =
     let m = parts-of c.before.before in
     let p = parts_at m in
     (p.value_in, omega (arith, p.to_in, p.next_in, inside m.before))
 
-returns-2 : tie.Need-returns-2 invariant-loop decreases-loop
+returns-2 : tie.Need-returns-in-Bad invariant-loop decreases-loop
 returns-2 c =
     let v = c.before.before in
     let k = v.before.before.before in
     let p = parts-of k in
-    let i = p.before.before.loop.inv in (
-      judging-bad i p.header-parts.ensures k.before.before.before.known.ensures k.before.name.given.1
-          (omega (arith, v.before.if1.false, v.before.before.field.ensures)) v.known-value.ensures.0 c.enum_told.given.1,
+    let i = p.before.before.loop-at.invariant in (
+      judging-bad i p.header_parts-parts.ensures k.before.before.before.known-name.ensures k.before.name-1.given.1
+          (omega (arith, v.before.if-field-ne0.false, v.before.before.field.ensures)) v.known_value-v.ensures.0 c.enum_told-1.given.1,
       i.range,
     )
 
-add-with-field : tie.Need-overflow-add-with-field invariant-loop decreases-loop
-add-with-field c = omega (arith, number-range c.before.v.given.1 c.before.before.before.known-value.ensures.1)
+add-with-field : tie.Need-overflow_add-n invariant-loop decreases-loop
+add-with-field c = omega (arith, number-range c.before.v-1.given.1 c.before.before.before.known_value-v.ensures.1)
 
-loop-less : tie.Need-loop-smaller invariant-loop decreases-loop
+loop-less : tie.Need-loop-at-smaller-in-Number invariant-loop decreases-loop
 loop-less c =
     let m = parts-of c.before.before.before.before.before.before.before in
     let p = parts_at m in
-    omega (arith, p.name_in, p.value_in, p.to_in, m.before.loop-test.taken)
+    omega (arith, p.name_in, p.value_in, p.to_in, m.before.loop-at-test.taken)
 
-loop-again : tie.Need-loop-preserved invariant-loop decreases-loop
+loop-again : tie.Need-loop-at-preserved-in-Number invariant-loop decreases-loop
 loop-again c =
     let v = c.before.before.before.before in
     let k = v.before.before.before in
     let p = parts-of k in
-    judging-number p.before.before.loop.inv p.header-parts.ensures k.before.before.before.known.ensures k.before.name.given.1
-    (omega (arith, v.before.if1.false, v.before.before.field.ensures)) v.known-value.ensures.0 c.before.before.v.given.1
-    v.known-value.ensures.1 c.with-field.ensures
+    judging-number p.before.before.loop-at.invariant p.header_parts-parts.ensures k.before.before.before.known-name.ensures k.before.name-1.given.1
+    (omega (arith, v.before.if-field-ne0.false, v.before.before.field.ensures)) v.known_value-v.ensures.0 c.before.before.v-1.given.1
+    v.known_value-v.ensures.1 c.with_field-values.ensures
 
-loop-less-2 : tie.Need-loop-smaller-2 invariant-loop decreases-loop
+loop-less-2 : tie.Need-loop-at-smaller invariant-loop decreases-loop
 loop-less-2 c =
     let m = c.before.before.before in
     let p = parts_at m in
-    omega (arith, p.name_in, p.value_in, p.to_in, m.before.loop-test.true)
+    omega (arith, p.name_in, p.value_in, p.to_in, m.before.loop-at-test.true)
 
-loop-again-2 : tie.Need-loop-preserved-2 invariant-loop decreases-loop
+loop-again-2 : tie.Need-loop-at-preserved invariant-loop decreases-loop
 loop-again-2 c =
     let m = c.before.before.before in
-    judging-other m.before.before.loop.invariant m.header-parts.ensures c.before.before.known.ensures c.enum-told2.given.1
+    judging-other m.before.before.loop-at.invariant m.header_parts-parts.ensures c.before.before.known-name.ensures c.enum_told-in_default-1.given.1
 
-returns-3 : tie.Need-returns-3 invariant-loop decreases-loop
+returns-3 : tie.Need-returns invariant-loop decreases-loop
 returns-3 c =
-    let i = c.before.loop.invariant in
-    (judging-all c.before.before.before.before.args.empty i c.loop-test.false, i.range)
+    let i = c.before.loop-at.invariant in
+    (judging-all c.before.before.before.before.args.empty i c.loop-at-test.false, i.range)
 
-pub judge-headers-spec : {M : Type 1} → statement M
-judge-headers-spec =
+pub judge_headers_spec : {M : Type 1} → statement M
+judge_headers_spec =
     tie.close
     (tie.spec
     invariant-loop decreases-loop (λ c κs. search rules) loop-holds header-parts-requires known-requires (λ c. search rules)

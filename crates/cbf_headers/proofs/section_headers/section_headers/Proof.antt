@@ -13,64 +13,64 @@ use Rattle.cbf_headers.proofs.section_headers.section_headers.Tie as tie
 
 -- the lines up to the empty line
 lines :
-    (c : tie.After-known-told2)
+    (c : tie.In-Empty)
     → let a = c.before.before.before.before.before.args in
-    let g = c.before.end2.given in
+    let g = c.before.end-in-Empty-1.given in
     Headed a.file.now a.at a.limit file_limit g.0.0 g.0.1.0
 lines c =
     let a = c.before.before.before.before.before.args in
-    let g = c.before.end2.given in
-    headed a.file.now a.at a.limit file_limit g.0.0 g.0.1.0 (sym g.1 ∙ c.before.before.before.header-end.ensures)
+    let g = c.before.end-in-Empty-1.given in
+    headed a.file.now a.at a.limit file_limit g.0.0 g.0.1.0 (sym g.1 ∙ c.before.before.before.header_end-end.ensures)
 
-judge-headers-requires : tie.Need-judge-headers-requires
+judge-headers-requires : tie.Need-judge_headers-judged-requires
 judge-headers-requires c κs = let a = c.before.before.before.before.before.args in headers-here a.file.now a.at a.limit file_limit (lines c)
 
-returns : tie.Need-returns
+returns : tie.Need-returns-then-judged
 returns c =
     let a = c.before.before.before.before.before.before.before.args in
-    let j = c.before.judge-headers in
-    section-refused a.file.now a.at a.limit file_limit (lines c.before.before) j.result j.ensures.0 c.if1.true
+    let j = c.before.judge_headers-judged in
+    section-refused a.file.now a.at a.limit file_limit (lines c.before.before) j.result j.ensures.0 c.if-judged.true
 
 -- what the values say
 said :
-    (c : tie.After-describe)
+    (c : tie.After-describe-described)
     → let a = c.before.before.before.before.before.before.before.before.before.args in
-    let g = c.before.before.before.before.before.end2.given in
-    read_as g.0.0 g.0.1.0 c.describe.result ≡ headers_read_at a.at (headers a.limit file_limit (drop a.at a.file.now))
+    let g = c.before.before.before.before.before.end-in-Empty-1.given in
+    read_as g.0.0 g.0.1.0 c.describe-described.result ≡ headers_read_at a.at (headers a.limit file_limit (drop a.at a.file.now))
 said c =
     let a = c.before.before.before.before.before.before.before.before.before.args in
-    let j = c.before.before.before.judge-headers in
+    let j = c.before.before.before.judge_headers-judged in
     section-found a.file.now a.at a.limit file_limit (lines c.before.before.before.before) j.result j.ensures.0
-    c.before.before.if1.false c.describe.result c.describe.ensures
+    c.before.before.if-judged.false c.describe-described.result c.describe-described.ensures
 
-returns-2 : tie.Need-returns-2
+returns-2 : tie.Need-returns-in-Refused
 returns-2 c =
     let a = c.before.before.before.before.before.args in
-    let g = c.before.end.given in
-    headers_refused a.file.now a.at a.limit file_limit g.0.0 (sym g.1 ∙ c.before.before.before.header-end.ensures)
+    let g = c.before.end-1.given in
+    headers_refused a.file.now a.at a.limit file_limit g.0.0 (sym g.1 ∙ c.before.before.before.header_end-end.ensures)
 
-returns-3 : tie.Need-returns-3
+returns-3 : tie.Need-returns-in-CutOff
 returns-3 c =
     let a = c.before.before.before.before.args in
-    headers-cut a.file.now a.at a.limit file_limit (sym c.enum_told.given.1 ∙ c.before.before.header-end.ensures)
+    headers-cut a.file.now a.at a.limit file_limit (sym c.enum_told-1.given.1 ∙ c.before.before.header_end-end.ensures)
 
-returns-4 : tie.Need-returns-4
+returns-4 : tie.Need-returns-in-Missing
 returns-4 c =
-    let g = c.before.before.before.before.before.before.before.end2.given in
-    ap (read_as g.0.0 g.0.1.0) (sym c.enum-told2.given.1) ∙ said c.before.before
+    let g = c.before.before.before.before.before.before.before.end-in-Empty-1.given in
+    ap (read_as g.0.0 g.0.1.0) (sym c.enum_told-in-Missing-1.given.1) ∙ said c.before.before
 
-returns-5 : tie.Need-returns-5
+returns-5 : tie.Need-returns-in-Disagree
 returns-5 c =
-    let g = c.before.before.before.before.before.before.before.end2.given in
-    ap (read_as g.0.0 g.0.1.0) (sym c.enum-told3.given.1) ∙ said c.before.before
+    let g = c.before.before.before.before.before.before.before.end-in-Empty-1.given in
+    ap (read_as g.0.0 g.0.1.0) (sym c.enum_told-in-Disagree-1.given.1) ∙ said c.before.before
 
-returns-6 : tie.Need-returns-6
+returns-6 : tie.Need-returns-in-As
 returns-6 c =
-    let g = c.before.before.before.before.before.before.before.before.end2.given in
-    ap (read_as g.0.0 g.0.1.0) (sym c.before.described.given.1) ∙ said c.before.before.before
+    let g = c.before.before.before.before.before.before.before.before.end-in-Empty-1.given in
+    ap (read_as g.0.0 g.0.1.0) (sym c.before.described-1.given.1) ∙ said c.before.before.before
 
-pub section-headers-spec : {M : Type 1} → statement M
-section-headers-spec =
+pub section_headers_spec : {M : Type 1} → statement M
+section_headers_spec =
     tie.close
     (tie.spec
     (λ c κs. search rules) (λ c. search rules) (λ c. search rules) (λ c. search rules) judge-headers-requires

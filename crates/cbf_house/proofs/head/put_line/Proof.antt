@@ -18,27 +18,28 @@ Pieces s k r new =
 none_yet : (s : tie.Start) → Pieces s 0 s.args.at s.args.out.now
 none_yet s = written_none (line_pieces s.args.name.now s.args.n) (line-pieces s.args.name.now s.args.n) s.requires
 
-after-1 : (c : tie.After-put-text) → Pieces c.before.before.before.before 1 c.put-text.result c.put-text.new.0
-after-1 c = written-more (none_yet c.before.before.before.before) c.put-text.ensures
+after-1 : (c : tie.After-put_text-after_name) → Pieces c.before.before.before.before 1 c.put_text-after_name.result c.put_text-after_name.new.0
+after-1 c = written-more (none_yet c.before.before.before.before) c.put_text-after_name.ensures
 
-after-2 : (c : tie.After-put-number) → Pieces c.before.before.before.before.before.before.before.before 2
-    c.put-number.result c.put-number.new.0
-after-2 c = written-more (after-1 c.before.before.before.before) c.put-number.ensures
+after-2 : (c : tie.After-put_number-after_number) → Pieces c.before.before.before.before.before.before.before.before 2
+    c.put_number-after_number.result c.put_number-after_number.new.0
+after-2 c = written-more (after-1 c.before.before.before.before) c.put_number-after_number.ensures
 
-put-text-requires : tie.Need-put-text-requires
+put-text-requires : tie.Need-put_text-after_name-requires
 put-text-requires c κs = next_fits (none_yet c.before.before.before)
 
-put-number-requires : tie.Need-put-number-requires
+put-number-requires : tie.Need-put_number-after_number-requires
 put-number-requires c κs = next_fits (after-1 c.before.before.before)
 
-put-text-requires-2 : tie.Need-put-text-requires-2
+put-text-requires-2 : tie.Need-put_text-requires
 put-text-requires-2 c κs = next_fits (after-2 c.before.before.before.before)
 
 returns : tie.Need-returns
-returns c = written_all (written-more (after-2 c.before.before.before.before.before.before.before) c.before.before.put-text2.ensures)
+returns c = written_all (written-more (after-2 c.before.before.before.before.before.before.before) c.before.before.put_text.ensures)
 
-pub put-line-spec : {M : Type 1} → statement M
-put-line-spec =
+pub put_line_spec : {M : Type 1} → statement M
+put_line_spec =
     tie.close
     (tie.spec
-    put-text-requires put-number-requires (λ c. search rules) put-text-requires-2 (λ c. search rules) returns)
+
+    put-text-requires put-number-requires put-text-requires-2 (λ c. search rules) returns)

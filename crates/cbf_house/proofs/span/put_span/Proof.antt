@@ -25,50 +25,50 @@ none_yet s =
 
 -- after a call: where the function started, and what is written
 
-abbrev start-1 : tie.After-put-head → tie.Start
+abbrev start-1 : tie.After-put_head-first → tie.Start
 start-1 c = c.before.before.before
 
-after-1 : (c : tie.After-put-head) → Pieces (start-1 c) 1 c.put-head.result c.put-head.new.0
-after-1 c = written-more (none_yet (start-1 c)) c.put-head.ensures
+after-1 : (c : tie.After-put_head-first) → Pieces (start-1 c) 1 c.put_head-first.result c.put_head-first.new.0
+after-1 c = written-more (none_yet (start-1 c)) c.put_head-first.ensures
 
-abbrev start-2 : tie.After-write-octets → tie.Start
+abbrev start-2 : tie.After-write_octets-after → tie.Start
 start-2 c = start-1 c.before.before.before.before
 
-after-2 : (c : tie.After-write-octets) → Pieces (start-2 c) 2 c.write-octets.result c.write-octets.new.1.0
-after-2 c = written-more (after-1 c.before.before.before.before) c.write-octets.ensures
+after-2 : (c : tie.After-write_octets-after) → Pieces (start-2 c) 2 c.write_octets-after.result c.write_octets-after.new.1.0
+after-2 c = written-more (after-1 c.before.before.before.before) c.write_octets-after.ensures
 
-abbrev start-3 : tie.After-put-text → tie.Start
+abbrev start-3 : tie.After-put_text-closing → tie.Start
 start-3 c = start-2 c.before.before.before.before.before
 
-after-3 : (c : tie.After-put-text) → Pieces (start-3 c) 3 c.put-text.result c.put-text.new.0
-after-3 c = written-more (after-2 c.before.before.before.before.before) c.put-text.ensures
+after-3 : (c : tie.After-put_text-closing) → Pieces (start-3 c) 3 c.put_text-closing.result c.put_text-closing.new.0
+after-3 c = written-more (after-2 c.before.before.before.before.before) c.put_text-closing.ensures
 
-abbrev start-4 : tie.After-put-text2 → tie.Start
+abbrev start-4 : tie.After-put_text → tie.Start
 start-4 c = start-3 c.before.before.before.before.before
 
-after-4 : (c : tie.After-put-text2) → Pieces (start-4 c) 4 c.put-text2.result c.put-text2.new.0
-after-4 c = written-more (after-3 c.before.before.before.before.before) c.put-text2.ensures
+after-4 : (c : tie.After-put_text) → Pieces (start-4 c) 4 c.put_text.result c.put_text.new.0
+after-4 c = written-more (after-3 c.before.before.before.before.before) c.put_text.ensures
 
 -- what each call needs
 
-put-head-requires : tie.Need-put-head-requires
+put-head-requires : tie.Need-put_head-first-requires
 put-head-requires c κs = next_fits (none_yet c.before.before)
 
-write-octets-requires : tie.Need-write-octets-requires
+write-octets-requires : tie.Need-write_octets-after-requires
 write-octets-requires c κs = let m = c.before.before.before in ((start-1 m).requires.0.small, next_fits (after-1 m))
 
-put-text-requires : tie.Need-put-text-requires
+put-text-requires : tie.Need-put_text-closing-requires
 put-text-requires c κs = next_fits (after-2 c.before.before.before.before)
 
-put-text-requires-2 : tie.Need-put-text-requires-2
+put-text-requires-2 : tie.Need-put_text-requires
 put-text-requires-2 c κs = next_fits (after-3 c.before.before.before.before)
 
 returns : tie.Need-returns
 returns c = written_all (after-4 c.before.before)
 
-pub put-span-spec : {M : Type 1} → statement M
-put-span-spec =
+pub put_span_spec : {M : Type 1} → statement M
+put_span_spec =
     tie.close
     (tie.spec
-    put-head-requires write-octets-requires (λ c. search rules) put-text-requires (λ c. search rules)
-    put-text-requires-2 (λ c. search rules) returns)
+
+    put-head-requires write-octets-requires put-text-requires put-text-requires-2 (λ c. search rules) returns)

@@ -7,10 +7,10 @@ use Rattle.cbf_house.proofs.span.span_length.Tie as tie
 
 returns : tie.Need-returns
 returns c = (
-  λ os e. omega (arith, span-size c.before.args.d os e, c.head-length.ensures.0),
-  omega (arith, c.head-length.ensures.1),
+  λ os e. omega (arith, span-size c.before.args.d os e, c.head_length.ensures.0),
+  omega (arith, c.head_length.ensures.1),
 )
 
-pub span-length-spec : {M : Type 1} → statement M
-span-length-spec =
+pub span_length_spec : {M : Type 1} → statement M
+span_length_spec =
     tie.close (tie.spec (λ c κs. search rules) (λ c. search rules) (λ c. search rules) (λ c. search rules) returns)

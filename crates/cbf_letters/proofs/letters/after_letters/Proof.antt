@@ -8,30 +8,30 @@ use Rattle.cbf_letters.proofs.LettersLaws.{each-then}
 use Rattle.cbf_letters.proofs.letters.after_letters.Statement.{statement}
 use Rattle.cbf_letters.proofs.letters.after_letters.Tie as tie
 
-abbrev invariant-loop : tie.invariant-loop
+abbrev invariant-loop : tie.invariant-loop-i
 invariant-loop file from to n i₀ i = (from ≤ i) × (i ≤ to) × LettersOnly file from i × ((i - from) % 4 ≡ 0)
 
-abbrev decreases-loop : tie.decreases-loop
+abbrev decreases-loop : tie.decreases-loop-i
 decreases-loop file from to n i₀ i = to - i
 
-loop-holds : tie.Need-loop-init invariant-loop decreases-loop
+loop-holds : tie.Need-loop-i-init invariant-loop decreases-loop
 loop-holds c = (omega arith, omega arith, λ i h k. absurd (omega arith), omega arith)
 
-all-letters-requires : tie.Need-all-letters-requires invariant-loop decreases-loop
+all-letters-requires : tie.Need-all_letters-requires invariant-loop decreases-loop
 all-letters-requires c κs = (omega arith, λ i h k. c.before.before.before.requires.2 i (omega arith) (omega arith))
 
-returns : tie.Need-returns invariant-loop decreases-loop
-returns c = c.before.before.before.loop.invariant
+returns : tie.Need-returns-then-not-all_letters invariant-loop decreases-loop
+returns c = c.before.before.before.loop-i.invariant
 
-loop-again : tie.Need-loop-preserved invariant-loop decreases-loop
+loop-again : tie.Need-loop-i-preserved invariant-loop decreases-loop
 loop-again c =
-    (omega arith, omega arith, each-then c.before.before.before.loop.invariant.2 (c.before.all-letters.ensures (not-false _ c.if1.false)), omega arith)
+    (omega arith, omega arith, each-then c.before.before.before.loop-i.invariant.2 (c.before.all_letters.ensures (not-false _ c.if-not-all_letters.false)), omega arith)
 
-returns-2 : tie.Need-returns-2 invariant-loop decreases-loop
-returns-2 c = c.before.loop.invariant
+returns-2 : tie.Need-returns invariant-loop decreases-loop
+returns-2 c = c.before.loop-i.invariant
 
-pub after-letters-spec : {M : Type 1} → statement M
-after-letters-spec =
+pub after_letters_spec : {M : Type 1} → statement M
+after_letters_spec =
     tie.close
     (tie.spec
     invariant-loop decreases-loop loop-holds (λ c. omega arith) all-letters-requires returns (λ c. omega arith)

@@ -10,32 +10,32 @@ use Rattle.cbf_letters.proofs.LettersLaws.{each_next}
 use Rattle.cbf_letters.proofs.letters.all_letters.Statement.{statement}
 use Rattle.cbf_letters.proofs.letters.all_letters.Tie as tie
 
-abbrev invariant-loop : tie.invariant-loop
+abbrev invariant-loop : tie.invariant-loop-j
 invariant-loop file at n other₀ j₀ other j = (j ≤ n) × (other ≡ false → LettersOnly file at (at + j))
 
-abbrev decreases-loop : tie.decreases-loop
+abbrev decreases-loop : tie.decreases-loop-j
 decreases-loop file at n other₀ j₀ other j = n - j
 
-loop-holds : tie.Need-loop-init invariant-loop decreases-loop
+loop-holds : tie.Need-loop-j-init invariant-loop decreases-loop
 loop-holds c = (omega arith, λ e i h k. absurd (omega arith))
 
 letter-requires : tie.Need-letter-requires invariant-loop decreases-loop
 letter-requires c κs = c.before.before.before.before.requires.1 _ (omega arith) (omega arith)
 
-loop-again : tie.Need-loop-preserved invariant-loop decreases-loop
+loop-again : tie.Need-loop-j-preserved invariant-loop decreases-loop
 loop-again c =
-    let l = c.before.before.before.before.loop in (
+    let l = c.before.before.before.before.loop-j in (
       omega arith,
       ⊎_elim (λ w e. absurd (true≢false (sym w.1 ∙ e)))
           (λ w e i h k. each_next (l.invariant.1 (sym w.1 ∙ e)) (sym c.before.letter.ensures ∙ not-false _ w.0.left) i h (omega arith))
-          c.if1.branch,
+          c.if-not-letter.branch,
     )
 
 returns : tie.Need-returns invariant-loop decreases-loop
-returns c e i h k = c.before.loop.invariant.1 (not-true _ e) i h (omega arith)
+returns c e i h k = c.before.loop-j.invariant.1 (not-true _ e) i h (omega arith)
 
-pub all-letters-spec : {M : Type 1} → statement M
-all-letters-spec =
+pub all_letters_spec : {M : Type 1} → statement M
+all_letters_spec =
     tie.close
     (tie.spec
     invariant-loop decreases-loop loop-holds (λ c. omega arith) (λ c. omega arith) letter-requires (λ c. omega arith)

@@ -8,36 +8,36 @@ use Rattle.cbf_letters.proofs.LettersLaws.{sixes-other}
 use Rattle.cbf_letters.proofs.letters.next_place.Statement.{statement}
 use Rattle.cbf_letters.proofs.letters.next_place.Tie as tie
 
-abbrev invariant-loop : tie.invariant-loop
+abbrev invariant-loop : tie.invariant-loop-i
 invariant-loop file at to i₀ i = (at ≤ i) × (i ≤ to) × (sixes (slice at to file) ≡ sixes (slice i to file))
 
-abbrev decreases-loop : tie.decreases-loop
+abbrev decreases-loop : tie.decreases-loop-i
 decreases-loop file at to i₀ i = to - i
 
-loop-holds : tie.Need-loop-init invariant-loop decreases-loop
+loop-holds : tie.Need-loop-i-init invariant-loop decreases-loop
 loop-holds c = (omega arith, omega arith, refl)
 
 letter-requires : tie.Need-letter-requires invariant-loop decreases-loop
 letter-requires c κs = c.before.before.before.before.requires.2 _ (omega arith) (omega arith)
 
-returns : tie.Need-returns invariant-loop decreases-loop
-returns c = let v = c.before.before.before.before.loop.invariant in (v.0, v.1, v.2, λ h. sym c.before.letter.ensures ∙ c.if1.true)
+returns : tie.Need-returns-then-letter invariant-loop decreases-loop
+returns c = let v = c.before.before.before.before.loop-i.invariant in (v.0, v.1, v.2, λ h. sym c.before.letter.ensures ∙ c.if-letter.true)
 
-loop-again : tie.Need-loop-preserved invariant-loop decreases-loop
+loop-again : tie.Need-loop-i-preserved invariant-loop decreases-loop
 loop-again c =
     let s = c.before.before.before.before.before.before in
-    let l = c.before.before.before.before.loop in (
+    let l = c.before.before.before.before.loop-i in (
       omega arith,
       omega arith,
       l.invariant.2 ∙ sixes-other s.args.file.now l.i s.args.to (omega arith)
-          (omega arith) (sym c.before.letter.ensures ∙ c.if1.false),
+          (omega arith) (sym c.before.letter.ensures ∙ c.if-letter.false),
     )
 
-returns-2 : tie.Need-returns-2 invariant-loop decreases-loop
-returns-2 c = let v = c.before.loop.invariant in (v.0, v.1, v.2, λ h. absurd (omega arith))
+returns-2 : tie.Need-returns invariant-loop decreases-loop
+returns-2 c = let v = c.before.loop-i.invariant in (v.0, v.1, v.2, λ h. absurd (omega arith))
 
-pub next-place-spec : {M : Type 1} → statement M
-next-place-spec =
+pub next_place_spec : {M : Type 1} → statement M
+next_place_spec =
     tie.close
     (tie.spec
     invariant-loop decreases-loop loop-holds (λ c. omega arith) letter-requires returns (λ c. omega arith)

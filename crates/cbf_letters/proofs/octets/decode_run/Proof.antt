@@ -8,25 +8,25 @@ use Rattle.cbf_letters.proofs.OctetsLaws.{LetterRun, letters-both, numbers-small
 use Rattle.cbf_letters.proofs.octets.decode_run.Statement.{statement}
 use Rattle.cbf_letters.proofs.octets.decode_run.Tie as tie
 
-after-letters-requires : tie.Need-after-letters-requires
+after-letters-requires : tie.Need-after_letters-requires
 after-letters-requires c κs =
     let good = c.before.before.before.before.requires.2 in
     (omega arith, omega arith, λ i h k. good i h (omega arith), omega arith, omega arith)
 
-after-letters-requires-2 : tie.Need-after-letters-requires-2
+after-letters-requires-2 : tie.Need-after_letters-next-requires
 after-letters-requires-2 c κs =
     let good = c.before.before.before.before.before.requires.2 in
     (omega arith, omega arith, λ i h k. good i (omega arith) (omega arith), omega arith, omega arith)
 
 -- what is known of the n letters
-run : (c : tie.After-after-letters2)
+run : (c : tie.After-after_letters-next)
     → let a = c.before.before.before.before.before.before.args in
-    LetterRun a.file.now a.at a.to (c.after-letters2.result - a.at) a.out.now a.from
+    LetterRun a.file.now a.at a.to (c.after_letters-next.result - a.at) a.out.now a.from
 run c =
     let t = c.before.before.before.before.before.before in
     let p = c.before.after_letters.ensures in
-    let q = c.after-letters2.ensures in
-    let e : c.after-letters2.result ≡ t.args.at + (c.after-letters2.result - t.args.at) = omega arith in
+    let q = c.after_letters-next.ensures in
+    let e : c.after_letters-next.result ≡ t.args.at + (c.after_letters-next.result - t.args.at) = omega arith in
     record {
       within = omega arith;
       inside = omega arith;
@@ -34,10 +34,10 @@ run c =
       room = omega arith;
       groups = omega arith;
       only = rw (← e) (letters-both t.args.file.now t.args.at c.before.after_letters.result
-          c.after-letters2.result p.0 q.0 p.2 q.2);
+          c.after_letters-next.result p.0 q.0 p.2 q.2);
     }
 
-numbers-of-requires : tie.Need-numbers-of-requires
+numbers-of-requires : tie.Need-numbers_of-requires
 numbers-of-requires c κs = let r = run c.before in (omega arith, r.only, r.few)
 
 join-requires : tie.Need-join-requires
@@ -53,8 +53,8 @@ returns c =
           c.before.before.before.before.before.before.Numbers-of.ensures c.before.before.join.ensures,
     )
 
-pub decode-run-spec : {M : Type 1} → statement M
-decode-run-spec =
+pub decode_run_spec : {M : Type 1} → statement M
+decode_run_spec =
     tie.close
     (tie.spec
     (λ c. search rules) (λ c. search rules) (λ c. search rules) (λ c κs. search rules) (λ c κs. search rules)

@@ -9,40 +9,40 @@ use Rattle.cbf_letters.proofs.OctetsLaws.{join-turn}
 use Rattle.cbf_letters.proofs.octets.join.Statement.{statement}
 use Rattle.cbf_letters.proofs.octets.join.Tie as tie
 
-abbrev invariant-loop : tie.invariant-loop
+abbrev invariant-loop : tie.invariant-loop-j
 invariant-loop numbers k out₀ at j₀ out j = (j ≤ k) × (length out ≡ length out₀) × (out ≡ sets out₀ at (sixes_octets (take (4 * j) numbers)))
 
-abbrev decreases-loop : tie.decreases-loop
+abbrev decreases-loop : tie.decreases-loop-j
 decreases-loop numbers k out₀ at j₀ out j = k - j
 
-loop-holds : tie.Need-loop-init invariant-loop decreases-loop
+loop-holds : tie.Need-loop-j-init invariant-loop decreases-loop
 unfolding sixes_octets
 loop-holds c = (omega arith, refl, refl)
 
-put-group-requires : tie.Need-put-group-requires invariant-loop decreases-loop
+put-group-requires : tie.Need-put_group-requires invariant-loop decreases-loop
 put-group-requires c κs =
     let t = c.before.before.before.before.before.before in
     let small = t.before.before.before.requires.1 in
-    let i = 4 * t.loop.j in
+    let i = 4 * t.loop-j.j in
     (small i (omega arith), small (i + 1) (omega arith), small (i + 2) (omega arith), small (i + 3) (omega arith), omega arith)
 
-loop-again : tie.Need-loop-preserved invariant-loop decreases-loop
+loop-again : tie.Need-loop-j-preserved invariant-loop decreases-loop
 loop-again c =
     let t = c.before.before.before.before.before.before.before.before.before in
     let a = t.before.before.before.args in (
       omega arith,
-      c.before.before.put-group.auto.1.1.1.1.0 ∙ t.loop.invariant.1,
-      join-turn a.numbers.now a.out.now a.at t.loop.j (omega arith) t.loop.invariant.2 c.before.before.put-group.ensures,
+      c.before.before.put_group.auto.1.1.1.1.0 ∙ t.loop-j.invariant.1,
+      join-turn a.numbers.now a.out.now a.at t.loop-j.j (omega arith) t.loop-j.invariant.2 c.before.before.put_group.ensures,
     )
 
-same_length : tie.Need-same-length invariant-loop decreases-loop
-same_length c = c.before.loop.invariant.1
+same_length : tie.Need-shape_of-out invariant-loop decreases-loop
+same_length c = c.before.loop-j.invariant.1
 
 returns : tie.Need-returns invariant-loop decreases-loop
-returns c = let e : c.before.loop.j ≡ c.before.before.before.before.args.k = omega arith in rw (← e) c.before.loop.invariant.2
+returns c = let e : c.before.loop-j.j ≡ c.before.before.before.before.args.k = omega arith in rw (← e) c.before.loop-j.invariant.2
 
-pub join-spec : {M : Type 1} → statement M
-join-spec =
+pub join_spec : {M : Type 1} → statement M
+join_spec =
     tie.close
     (tie.spec
     invariant-loop decreases-loop loop-holds (λ c. omega arith) (λ c. omega arith) (λ c. omega arith) (λ c. omega arith)

@@ -5,11 +5,11 @@ use native.Mathlib.Omega.{arith}
 use Rattle.cbf_letters.proofs.octets.least.Statement.{statement}
 use Rattle.cbf_letters.proofs.octets.least.Tie as tie
 
-returns : tie.Need-returns
+returns : tie.Need-returns-then-a-b
 returns c = (omega arith, omega arith, inl refl)
 
-returns-2 : tie.Need-returns-2
+returns-2 : tie.Need-returns-else-a-b
 returns-2 c = (omega arith, omega arith, inr refl)
 
-pub least-spec : {M : Type 1} → statement M
-least-spec = tie.close (tie.spec returns returns-2)
+pub least_spec : {M : Type 1} → statement M
+least_spec = tie.close (tie.spec returns returns-2)

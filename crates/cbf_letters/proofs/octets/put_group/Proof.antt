@@ -6,17 +6,17 @@ use borrow.Author.Rules.{rules}
 use Rattle.cbf_letters.proofs.octets.put_group.Statement.{statement}
 use Rattle.cbf_letters.proofs.octets.put_group.Tie as tie
 
-slice-write-out-2 : tie.Need-slice-write-out-2
+slice-write-out-2 : tie.Need-bounds-out-at-2
 slice-write-out-2 c = simp length-set (omega arith)
 
-slice-write-out-3 : tie.Need-slice-write-out-3
+slice-write-out-3 : tie.Need-bounds-out-at-3
 slice-write-out-3 c = simp length-set (omega arith)
 
 returns : tie.Need-returns
 returns c = rw (add-one, add-two)
 
-pub put-group-spec : {M : Type 1} → statement M
-put-group-spec =
+pub put_group_spec : {M : Type 1} → statement M
+put_group_spec =
     tie.close
     (tie.spec
     (λ c. search rules) (λ c. search rules) (λ c. search rules) (λ c. search rules) (λ c. search rules)

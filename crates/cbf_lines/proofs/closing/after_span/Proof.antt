@@ -5,24 +5,24 @@ use Rattle.cbf_lines.proofs.ClosingLaws.{line-end-inside, after-span-missing, af
 use Rattle.cbf_lines.proofs.closing.after_span.Statement.{statement}
 use Rattle.cbf_lines.proofs.closing.after_span.Tie as tie
 
-semicolon-line-requires : tie.Need-semicolon-line-requires
+semicolon-line-requires : tie.Need-semicolon_line-requires
 semicolon-line-requires c κs =
     let s = c.before.before.before.before.before in
-    line-end-inside s.args.file.now s.args.at s.requires (sym c.before.end.given.1 ∙ c.before.before.before.line-end.ensures)
+    line-end-inside s.args.file.now s.args.at s.requires (sym c.before.end-1.given.1 ∙ c.before.before.before.line_end-end.ensures)
 
-returns : tie.Need-returns
+returns : tie.Need-returns-in-Missing
 returns c =
     let a = c.before.before.before.before.args in
-    after-span-missing a.file.now a.limit a.at (sym c.enum_told.given.1 ∙ c.before.before.line-end.ensures)
+    after-span-missing a.file.now a.limit a.at (sym c.enum_told-1.given.1 ∙ c.before.before.line_end-end.ensures)
 
-returns-2 : tie.Need-returns-2
+returns-2 : tie.Need-returns-in-At
 returns-2 c =
     let a = c.before.before.before.before.before.before.args in
-    c.semicolon-line.ensures
-    ∙ after-span-next a.file.now a.limit a.at (sym c.before.before.end.given.1 ∙ c.before.before.before.before.line-end.ensures)
+    c.semicolon_line.ensures
+    ∙ after-span-next a.file.now a.limit a.at (sym c.before.before.end-1.given.1 ∙ c.before.before.before.before.line_end-end.ensures)
 
-pub after-span-spec : {M : Type 1} → statement M
-after-span-spec =
+pub after_span_spec : {M : Type 1} → statement M
+after_span_spec =
     tie.close
     (tie.spec
     (λ c κs. search rules) (λ c. search rules) (λ c. search rules) semicolon-line-requires returns returns-2)

@@ -7,24 +7,24 @@ use borrow.Author.Rules.{rules}
 use Rattle.cbf_lines.proofs.line.after_return.Statement.{statement}
 use Rattle.cbf_lines.proofs.line.after_return.Tie as tie
 
-returns : tie.Need-returns
+returns : tie.Need-returns-then-file-i-eq10
 returns c =
     let a = c.before.before.before.args in
     let file = a.file.now in
-    (ap (λ (n : ℕ). a.i + n) (sym (return-two file a.i (omega arith) c.if2.true)), omega arith)
+    (ap (λ (n : ℕ). a.i + n) (sym (return-two file a.i (omega arith) c.if-file-i-eq10.true)), omega arith)
 
-returns-2 : tie.Need-returns-2
+returns-2 : tie.Need-returns
 returns-2 c =
     let a = c.before.args in
     let file = a.file.now in (
       ap (λ (n : ℕ). a.i + n)
           (sym
-          (⊎_elim (λ w. return-one file a.i (omega arith) w.2.left) (λ w. return-end file a.i (omega arith)) c.if1.branch)),
+          (⊎_elim (λ w. return-one file a.i (omega arith) w.2.left) (λ w. return-end file a.i (omega arith)) c.if-file-i-ge2.branch)),
       omega arith,
     )
 
-pub after-return-spec : {M : Type 1} → statement M
-after-return-spec =
+pub after_return_spec : {M : Type 1} → statement M
+after_return_spec =
     tie.close
     (tie.spec
     (λ c. search rules) (λ c. search rules) (λ c. search rules) (λ c. search rules) returns

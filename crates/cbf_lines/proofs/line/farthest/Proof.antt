@@ -6,11 +6,11 @@ use borrow.Author.Rules.{rules}
 use Rattle.cbf_lines.proofs.line.farthest.Statement.{statement}
 use Rattle.cbf_lines.proofs.line.farthest.Tie as tie
 
-returns : tie.Need-returns
+returns : tie.Need-returns-then-limit-file
 returns c = let a = c.before.args in rw (lt-ltb a.limit (length a.file.now - a.at) (omega arith))
 
-returns-2 : tie.Need-returns-2
+returns-2 : tie.Need-returns
 returns-2 c = let a = c.before.args in rw (le-ltb a.limit (length a.file.now - a.at) (omega arith))
 
-pub farthest-spec : {M : Type 1} → statement M
-farthest-spec = tie.close (tie.spec (λ c. search rules) (λ c. search rules) returns returns-2)
+pub farthest_spec : {M : Type 1} → statement M
+farthest_spec = tie.close (tie.spec (λ c. search rules) (λ c. search rules) returns returns-2)

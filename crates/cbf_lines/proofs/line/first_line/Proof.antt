@@ -6,17 +6,17 @@ use borrow.Author.Rules.{rules}
 use Rattle.cbf_lines.proofs.line.first_line.Statement.{statement}
 use Rattle.cbf_lines.proofs.line.first_line.Tie as tie
 
-returns : tie.Need-returns
+returns : tie.Need-returns-then-not-identified
 returns c = let a = c.before.before.before.args in first-refused a.limit a.file.now
-    c.before.identified.result c.before.identified.ensures (not-true _ c.if1.true)
+    c.before.identified.result c.before.identified.ensures (not-true _ c.if-not-identified.true)
 
-returns-2 : tie.Need-returns-2
+returns-2 : tie.Need-returns
 returns-2 c =
     let a = c.before.before.before.before.args in
-    c.text-line.ensures
+    c.text_line.ensures
     ∙ ap (line_at 0)
     (first-text a.limit a.file.now c.before.before.identified.result
-    c.before.before.identified.ensures (not-false _ c.before.if1.false))
+    c.before.before.identified.ensures (not-false _ c.before.if-not-identified.false))
 
-pub first-line-spec : {M : Type 1} → statement M
-first-line-spec = tie.close (tie.spec (λ c κs. search rules) returns (λ c κs. search rules) returns-2)
+pub first_line_spec : {M : Type 1} → statement M
+first_line_spec = tie.close (tie.spec (λ c κs. search rules) returns (λ c κs. search rules) returns-2)

@@ -6,41 +6,41 @@ use borrow.Author.Rules.{rules}
 use Rattle.cbf_lines.proofs.line.malformed.Statement.{statement}
 use Rattle.cbf_lines.proofs.line.malformed.Tie as tie
 
-returns : tie.Need-returns
+returns : tie.Need-returns-then-from-to
 returns c =
     let a = c.before.before.args in
-    malformed-empty a.file.now a.from a.to a.first (omega arith) c.if1.true
+    malformed-empty a.file.now a.from a.to a.first (omega arith) c.if-from-to.true
 
-returns-2 : tie.Need-returns-2
+returns-2 : tie.Need-returns-then-blank
 returns-2 c =
     let a = c.before.before.before.before.before.args in
-    malformed-blank a.file.now a.from a.to a.first (omega arith) (omega arith) (sym c.before.blank.ensures ∙ c.if2.true)
+    malformed-blank a.file.now a.from a.to a.first (omega arith) (omega arith) (sym c.before.blank.ensures ∙ c.if-blank.true)
 
-returns-3 : tie.Need-returns-3
+returns-3 : tie.Need-returns-then-i-from
 returns-3 c =
     let a = c.before.before.before.before.before.before.before.args in
     malformed-no-name a.file.now a.from a.to a.first (omega arith) (omega arith)
-    (sym c.before.before.before.blank.ensures ∙ c.before.before.if2.false)
-    c.before.after-name.ensures c.if3.true
+    (sym c.before.before.before.blank.ensures ∙ c.before.before.if-blank.false)
+    c.before.after_name-i.ensures c.if-i-from.true
 
-returns-4 : tie.Need-returns-4
+returns-4 : tie.Need-returns-then-i-to
 returns-4 c =
     let a = c.before.before.before.before.before.before.before.before.args in
     malformed-no-colon a.file.now a.from a.to a.first (omega arith) (omega arith)
-    (sym c.before.before.before.before.blank.ensures ∙ c.before.before.before.if2.false)
-    c.before.before.after-name.ensures c.before.if3.false c.if4.true
+    (sym c.before.before.before.before.blank.ensures ∙ c.before.before.before.if-blank.false)
+    c.before.before.after_name-i.ensures c.before.if-i-from.false c.if-i-to.true
 
-returns-5 : tie.Need-returns-5
+returns-5 : tie.Need-returns
 returns-5 c =
     let a = c.before.before.before.before.before.before.before.before.before.args in
-    let h = c.before.before.before.after-name.ensures.high in
+    let h = c.before.before.before.after_name-i.ensures.high in
     malformed-at a.file.now a.from a.to a.first (omega arith) (omega arith)
     (sym c.before.before.before.before.before.blank.ensures
-    ∙ c.before.before.before.before.if2.false) c.before.before.before.after-name.ensures
-    c.before.before.if3.false (omega arith)
+    ∙ c.before.before.before.before.if-blank.false) c.before.before.before.after_name-i.ensures
+    c.before.before.if-i-from.false (omega arith)
 
-pub malformed-spec : {M : Type 1} → statement M
-malformed-spec =
+pub malformed_spec : {M : Type 1} → statement M
+malformed_spec =
     tie.close
     (tie.spec
     returns (λ c. search rules) (λ c κs. search rules) returns-2 (λ c κs. search rules) returns-3 returns-4

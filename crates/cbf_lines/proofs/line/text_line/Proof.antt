@@ -9,7 +9,7 @@ use borrow.Author.Rules.{rules}
 use Rattle.cbf_lines.proofs.line.text_line.Statement.{statement}
 use Rattle.cbf_lines.proofs.line.text_line.Tie as tie
 
-after-text-requires : tie.Need-after-text-requires
+after-text-requires : tie.Need-after_text-i-requires
 after-text-requires c κs =
     let a = c.before.before.args in
     let file = a.file.now in
@@ -17,68 +17,68 @@ after-text-requires c κs =
     (f.low, f.high)
 
 -- the scan
-scanned : (c : tie.After-after-text) → Scan c.before.before.before.args.limit
-    c.before.before.before.args.file.now c.before.before.before.args.at c.after_text.result
+scanned : (c : tie.After-after_text-i) → Scan c.before.before.before.args.limit
+    c.before.before.before.args.file.now c.before.before.before.args.at c.after_text-i.result
 scanned c =
     let a = c.before.before.before.args in
-    scan a.limit a.file.now a.at c.before.farthest.result c.after_text.result
+    scan a.limit a.file.now a.at c.before.farthest.result c.after_text-i.result
     c.before.farthest.ensures c.before.before.before.requires
-    c.after_text.ensures
+    c.after_text-i.ensures
 
-returns : tie.Need-returns
+returns : tie.Need-returns-then-i-file
 returns c =
     let a = c.before.before.before.before.args in
     let file = a.file.now in
-    let i = c.before.after_text.result in
+    let i = c.before.after_text-i.result in
     let s = scanned c.before in
     run-line a.limit file s 0 i (omega arith) (line-end file i (omega arith))
 
-shared-slice-read-b : tie.Need-shared-slice-read-b
+shared-slice-read-b : tie.Need-bounds-file-i
 shared-slice-read-b c = let s = scanned c.before.before in omega arith
 
-add-t10 : tie.Need-overflow-add-t10
+add-t10 : tie.Need-overflow_add-result
 add-t10 c = let s = scanned c.before.before.before in omega arith
 
-returns-2 : tie.Need-returns-2
+returns-2 : tie.Need-returns-then-b-eq10
 returns-2 c =
     let a = c.before.before.before.before.before.before.args in
     let file = a.file.now in
-    let i = c.before.before.before.after_text.result in
+    let i = c.before.before.before.after_text-i.result in
     let s = scanned c.before.before.before in
-    run-line a.limit file s 1 (i + 1) (omega arith) (line-10 file i (omega arith) c.if2.true)
+    run-line a.limit file s 1 (i + 1) (omega arith) (line-10 file i (omega arith) c.if-b-eq10.true)
 
-after-return-requires : tie.Need-after-return-requires
+after-return-requires : tie.Need-after_return-requires
 after-return-requires c κs = let s = scanned c.before.before.before.before in omega arith
 
-returns-3 : tie.Need-returns-3
+returns-3 : tie.Need-returns-then-b-eq13
 returns-3 c =
     let a = c.before.before.before.before.before.before.before.before.args in
     let file = a.file.now in
-    let i = c.before.before.before.before.before.after_text.result in
+    let i = c.before.before.before.before.before.after_text-i.result in
     let s = scanned c.before.before.before.before.before in
-    run-line a.limit file s (end_length (hd (drop (i + 1) file))) c.after-return.result c.after-return.ensures.0
-    (line-13 file i (omega arith) c.before.if3.true)
+    run-line a.limit file s (end_length (hd (drop (i + 1) file))) c.after_return.result c.after_return.ensures.0
+    (line-13 file i (omega arith) c.before.if-b-eq13.true)
 
-returns-4 : tie.Need-returns-4
+returns-4 : tie.Need-returns-then-textual
 returns-4 c =
     let a = c.before.before.before.before.before.before.before.before.before.args in
     let file = a.file.now in
-    let i = c.before.before.before.before.before.before.after_text.result in
+    let i = c.before.before.before.before.before.before.after_text-i.result in
     let s = scanned c.before.before.before.before.before.before in
-    run-2 a.limit file s (omega arith) c.before.before.before.if2.false c.before.before.if3.false
-    (sym c.before.textual.ensures ∙ c.if4.true)
+    run-2 a.limit file s (omega arith) c.before.before.before.if-b-eq10.false c.before.before.if-b-eq13.false
+    (sym c.before.textual.ensures ∙ c.if-textual.true)
 
-returns-5 : tie.Need-returns-5
+returns-5 : tie.Need-returns
 returns-5 c =
     let a = c.before.before.before.before.before.before.before.before.before.args in
     let file = a.file.now in
-    let i = c.before.before.before.before.before.before.after_text.result in
+    let i = c.before.before.before.before.before.before.after_text-i.result in
     let s = scanned c.before.before.before.before.before.before in
-    run-3 a.limit file s (omega arith) c.before.before.before.if2.false c.before.before.if3.false
-    (sym c.before.textual.ensures ∙ c.if4.false)
+    run-3 a.limit file s (omega arith) c.before.before.before.if-b-eq10.false c.before.before.if-b-eq13.false
+    (sym c.before.textual.ensures ∙ c.if-textual.false)
 
-pub text-line-spec : {M : Type 1} → statement M
-text-line-spec =
+pub text_line_spec : {M : Type 1} → statement M
+text_line_spec =
     tie.close
     (tie.spec
     (λ c κs. search rules) after-text-requires returns shared-slice-read-b add-t10 returns-2

@@ -10,34 +10,34 @@ use Rattle.cbf_lines.proofs.TextLaws.{run-start, run-next, run-stop, small-lette
 use Rattle.cbf_lines.proofs.text.after_name.Statement.{statement}
 use Rattle.cbf_lines.proofs.text.after_name.Tie as tie
 
-abbrev invariant-loop : tie.invariant-loop
+abbrev invariant-loop : tie.invariant-loop-i
 invariant-loop file from to i₀ i = (i ≤ to) × Run name_byte file from i i
 
-abbrev decreases-loop : tie.decreases-loop
+abbrev decreases-loop : tie.decreases-loop-i
 decreases-loop file from to i₀ i = to - i
 
-loop-holds : tie.Need-loop-init invariant-loop decreases-loop
+loop-holds : tie.Need-loop-i-init invariant-loop decreases-loop
 loop-holds c = (omega arith, run-start c.before.args.from)
 
-returns : tie.Need-returns invariant-loop decreases-loop
-returns c = run-stop c.before.before.before.before.before.loop.invariant.1 (omega arith)
-    (λ h. sym c.before.name-byte.ensures ∙ not-true _ c.if2.true)
+returns : tie.Need-returns-then-not-name_byte invariant-loop decreases-loop
+returns c = run-stop c.before.before.before.before.before.loop-i.invariant.1 (omega arith)
+    (λ h. sym c.before.name_byte.ensures ∙ not-true _ c.if-not-name_byte.true)
 
-returns-2 : tie.Need-returns-2 invariant-loop decreases-loop
-returns-2 c = run-stop c.before.before.before.before.loop.invariant.1 (omega arith) (λ h. past-letters _ c.before.if1.false c.if3.true)
+returns-2 : tie.Need-returns-then-b-gt122 invariant-loop decreases-loop
+returns-2 c = run-stop c.before.before.before.before.loop-i.invariant.1 (omega arith) (λ h. past-letters _ c.before.if-b-lt97.false c.if-b-gt122.true)
 
-loop-again : tie.Need-loop-preserved invariant-loop decreases-loop
+loop-again : tie.Need-loop-i-preserved invariant-loop decreases-loop
 loop-again c = (
   omega arith,
-  run-next c.before.before.before.loop.invariant.1
-      (⊎_elim (λ w. sym w.1.ensures ∙ not-false _ w.2.left) (λ w. small-letter _ w.0.left w.1.left) c.if1.branch),
+  run-next c.before.before.before.loop-i.invariant.1
+      (⊎_elim (λ w. sym w.1.ensures ∙ not-false _ w.2.left) (λ w. small-letter _ w.0.left w.1.left) c.if-b-lt97.branch),
 )
 
-returns-3 : tie.Need-returns-3 invariant-loop decreases-loop
-returns-3 c = run-stop c.before.loop.invariant.1 (omega arith) (λ h. absurd (omega arith))
+returns-3 : tie.Need-returns invariant-loop decreases-loop
+returns-3 c = run-stop c.before.loop-i.invariant.1 (omega arith) (λ h. absurd (omega arith))
 
-pub after-name-spec : {M : Type 1} → statement M
-after-name-spec =
+pub after_name_spec : {M : Type 1} → statement M
+after_name_spec =
     tie.close
     (tie.spec
     invariant-loop decreases-loop loop-holds (λ c. omega arith) (λ c κs. search rules) returns returns-2 (λ c. omega arith)

@@ -9,33 +9,33 @@ use Rattle.cbf_lines.proofs.TextLaws.{text-over}
 use Rattle.cbf_lines.proofs.text.after_text.Statement.{statement}
 use Rattle.cbf_lines.proofs.text.after_text.Tie as tie
 
-abbrev invariant-loop : tie.invariant-loop
+abbrev invariant-loop : tie.invariant-loop-i
 invariant-loop file from to i₀ i = (i ≤ to) × Run textual file from i i
 
-abbrev decreases-loop : tie.decreases-loop
+abbrev decreases-loop : tie.decreases-loop-i
 decreases-loop file from to i₀ i = to - i
 
-loop-holds : tie.Need-loop-init invariant-loop decreases-loop
-loop-holds c = (c.after-blocks.ensures.0, run-weaker c.after-blocks.ensures.1 plain-textual)
+loop-holds : tie.Need-loop-i-init invariant-loop decreases-loop
+loop-holds c = (c.after_blocks-i.ensures.0, run-weaker c.after_blocks-i.ensures.1 plain-textual)
 
-returns : tie.Need-returns invariant-loop decreases-loop
-returns c = run-stop c.before.before.before.before.loop.invariant.1 (omega arith) (λ h. text-under _ c.before.if1.true c.if2.true)
+returns : tie.Need-returns-then-b-ne9 invariant-loop decreases-loop
+returns c = run-stop c.before.before.before.before.loop-i.invariant.1 (omega arith) (λ h. text-under _ c.before.if-b-lt32.true c.if-b-ne9.true)
 
-returns-2 : tie.Need-returns-2 invariant-loop decreases-loop
-returns-2 c = run-stop c.before.before.before.before.loop.invariant.1 (omega arith) (λ h. text-over _ c.if3.true)
+returns-2 : tie.Need-returns-then-b-gt126 invariant-loop decreases-loop
+returns-2 c = run-stop c.before.before.before.before.loop-i.invariant.1 (omega arith) (λ h. text-over _ c.if-b-gt126.true)
 
-loop-again : tie.Need-loop-preserved invariant-loop decreases-loop
+loop-again : tie.Need-loop-i-preserved invariant-loop decreases-loop
 loop-again c = (
   omega arith,
-  run-next c.before.before.before.loop.invariant.1 (⊎_elim (λ w. ap textual w.1.left)
-      (λ w. text-between _ w.0.left w.1.left) c.if1.branch),
+  run-next c.before.before.before.loop-i.invariant.1 (⊎_elim (λ w. ap textual w.1.left)
+      (λ w. text-between _ w.0.left w.1.left) c.if-b-lt32.branch),
 )
 
-returns-3 : tie.Need-returns-3 invariant-loop decreases-loop
-returns-3 c = run-stop c.before.loop.invariant.1 (omega arith) (λ h. absurd (omega arith))
+returns-3 : tie.Need-returns invariant-loop decreases-loop
+returns-3 c = run-stop c.before.loop-i.invariant.1 (omega arith) (λ h. absurd (omega arith))
 
-pub after-text-spec : {M : Type 1} → statement M
-after-text-spec =
+pub after_text_spec : {M : Type 1} → statement M
+after_text_spec =
     tie.close
     (tie.spec
     invariant-loop decreases-loop (λ c κs. omega arith) loop-holds (λ c. omega arith) returns returns-2 (λ c. omega arith)

@@ -17,16 +17,16 @@ returns c =
     let j3 = c.before.before in
     let j4 = c.before in
     let b = j1.before.args.b in
-    let e1 : j1.if1.other ≡ ltb b 43 = ⊎_elim (λ w. w.1 ∙ sym (lt-ltb b 43 w.0.taken)) (λ w. w.1 ∙ sym (le-ltb b 43 w.0.left)) j1.if1.branch in
-    let e2 : j2.if2.other ≡ (between 43 47 b || j1.if1.other) =
-    flag-between 43 47 b _ j2.if2.branch (λ w. (w.0.taken, w.1.taken, w.2)) (λ w. (w.1.left, w.2)) (λ w. (w.0.left, w.1)) in
-    let e3 : j3.if4.other ≡ (between 57 65 b || j2.if2.other) =
-    flag-between 57 65 b _ j3.if4.branch (λ w. (w.0.taken, w.1.taken, w.2)) (λ w. (w.1.left, w.2)) (λ w. (w.0.left, w.1)) in
-    let e4 : j4.if6.other ≡ (between 90 97 b || j3.if4.other) =
-    flag-between 90 97 b _ j4.if6.branch (λ w. (w.0.taken, w.1.taken, w.2)) (λ w. (w.1.left, w.2)) (λ w. (w.0.left, w.1)) in
-    let e5 : c.if8.other ≡ (ltb 122 b || j4.if6.other) = ⊎_elim (λ w. rw (lt-ltb 122 b w.0.taken) w.1)
-    (λ w. rw (le-ltb 122 b w.0.left) w.1) c.if8.branch in
+    let e1 : j1.if-b-lt43.other ≡ ltb b 43 = ⊎_elim (λ w. w.1 ∙ sym (lt-ltb b 43 w.0.taken)) (λ w. w.1 ∙ sym (le-ltb b 43 w.0.left)) j1.if-b-lt43.branch in
+    let e2 : j2.if-b-gt43.other ≡ (between 43 47 b || j1.if-b-lt43.other) =
+    flag-between 43 47 b _ j2.if-b-gt43.branch (λ w. (w.0.taken, w.1.taken, w.2)) (λ w. (w.1.left, w.2)) (λ w. (w.0.left, w.1)) in
+    let e3 : j3.if-b-gt57.other ≡ (between 57 65 b || j2.if-b-gt43.other) =
+    flag-between 57 65 b _ j3.if-b-gt57.branch (λ w. (w.0.taken, w.1.taken, w.2)) (λ w. (w.1.left, w.2)) (λ w. (w.0.left, w.1)) in
+    let e4 : j4.if-b-gt90.other ≡ (between 90 97 b || j3.if-b-gt57.other) =
+    flag-between 90 97 b _ j4.if-b-gt90.branch (λ w. (w.0.taken, w.1.taken, w.2)) (λ w. (w.1.left, w.2)) (λ w. (w.0.left, w.1)) in
+    let e5 : c.if-b-gt122.other ≡ (ltb 122 b || j4.if-b-gt90.other) = ⊎_elim (λ w. rw (lt-ltb 122 b w.0.taken) w.1)
+    (λ w. rw (le-ltb 122 b w.0.left) w.1) c.if-b-gt122.branch in
     rw (e5, e4, e3, e2, e1) (letter-gaps b (omega arith))
 
-pub base64-letter-spec : {M : Type 1} → statement M
-base64-letter-spec = tie.close (tie.spec returns)
+pub base64_letter_spec : {M : Type 1} → statement M
+base64_letter_spec = tie.close (tie.spec returns)

@@ -2,11 +2,11 @@ use borrow.Author.Tests.{eq-eqb, ne_eqb}
 use Rattle.cbf_lines.proofs.text.blank.Statement.{statement}
 use Rattle.cbf_lines.proofs.text.blank.Tie as tie
 
-returns : tie.Need-returns
-returns c = rw (eq-eqb c.before.args.b 9 c.if1.true)
+returns : tie.Need-returns-then-b-eq9
+returns c = rw (eq-eqb c.before.args.b 9 c.if-b-eq9.true)
 
-returns-2 : tie.Need-returns-2
-returns-2 c = rw (ne_eqb c.before.args.b 9 c.if1.false)
+returns-2 : tie.Need-returns
+returns-2 c = rw (ne_eqb c.before.args.b 9 c.if-b-eq9.false)
 
-pub blank-spec : {M : Type 1} → statement M
-blank-spec = tie.close (tie.spec returns returns-2)
+pub blank_spec : {M : Type 1} → statement M
+blank_spec = tie.close (tie.spec returns returns-2)

@@ -11,23 +11,23 @@ use Rattle.cbf_lines.proofs.text.in_class.Tie as tie
 by-class : {class k : Class} (b : ℕ) {r : Bool} → class ≡ k → r ≡ in_class k b → r ≡ in_class class b
 by-class b e h = h ∙ sym (ap (λ (k : Class). in_class k b) e)
 
-returns : tie.Need-returns
-returns c = by-class c.before.before.before.args.b c.before.enum_told.given.1 c.blank.ensures
+returns : tie.Need-returns-in-Blank
+returns c = by-class c.before.before.before.args.b c.before.enum_told-1.given.1 c.blank.ensures
 
-returns-2 : tie.Need-returns-2
-returns-2 c = by-class c.before.before.before.args.b c.before.enum-told2.given.1 (ap not c.blank2.ensures)
+returns-2 : tie.Need-returns-in-NotBlank
+returns-2 c = by-class c.before.before.before.args.b c.before.enum_told-in-NotBlank-1.given.1 (ap not c.blank-in-NotBlank.ensures)
 
-returns-3 : tie.Need-returns-3
-returns-3 c = by-class c.before.before.before.args.b c.before.class.given.1 refl
+returns-3 : tie.Need-returns-in-Not
+returns-3 c = by-class c.before.before.before.args.b c.before.class-1.given.1 refl
 
-returns-4 : tie.Need-returns-4
-returns-4 c = by-class c.before.before.before.args.b c.before.enum-told3.given.1 c.plain.ensures
+returns-4 : tie.Need-returns-in-Plain
+returns-4 c = by-class c.before.before.before.args.b c.before.enum_told-in-Plain-1.given.1 c.plain.ensures
 
-returns-5 : tie.Need-returns-5
-returns-5 c = by-class c.before.before.before.args.b c.before.enum-told4.given.1 c.base64-letter.ensures
+returns-5 : tie.Need-returns-in-Base64Letter
+returns-5 c = by-class c.before.before.before.args.b c.before.enum_told-in-Base64Letter-1.given.1 c.base64_letter.ensures
 
-pub in-class-spec : {M : Type 1} → statement M
-in-class-spec =
+pub in_class_spec : {M : Type 1} → statement M
+in_class_spec =
     tie.close
     (tie.spec
     (λ c. search rules) (λ c κs. search rules) (λ c. search rules) (λ c κs. search rules) (λ c. search rules)

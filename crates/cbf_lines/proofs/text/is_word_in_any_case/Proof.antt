@@ -11,49 +11,49 @@ use Rattle.cbf_lines.proofs.TextLaws.{compared-not, compared-end}
 use Rattle.cbf_lines.proofs.text.is_word_in_any_case.Statement.{statement}
 use Rattle.cbf_lines.proofs.text.is_word_in_any_case.Tie as tie
 
-abbrev invariant-loop : tie.invariant-loop
+abbrev invariant-loop : tie.invariant-loop-i
 invariant-loop file from to word differs₀ i₀ differs i = (i ≤ length word) × Compared differs word (lowers (slice from to file)) i
 
-abbrev decreases-loop : tie.decreases-loop
+abbrev decreases-loop : tie.decreases-loop-i
 decreases-loop file from to word differs₀ i₀ differs i = length word - i
 
-returns : tie.Need-returns invariant-loop decreases-loop
+returns : tie.Need-returns-then-to-from invariant-loop decreases-loop
 returns c =
     let a = c.before.before.before.args in
     let s = lowers (slice a.from a.to a.file.now) in
     let l = length-lowered a.from a.to a.file.now c.before.before.before.requires.1 in
-    sym (same-lengths a.word.now s (λ e. c.if1.true (sym l ∙ sym e)))
+    sym (same-lengths a.word.now s (λ e. c.if-to-from.true (sym l ∙ sym e)))
 
-loop-holds : tie.Need-loop-init invariant-loop decreases-loop
+loop-holds : tie.Need-loop-i-init invariant-loop decreases-loop
 loop-holds c = (omega arith, refl)
 
-loop-again : tie.Need-loop-preserved invariant-loop decreases-loop
+loop-again : tie.Need-loop-i-preserved invariant-loop decreases-loop
 loop-again c =
     let st = c.before.before.before.before.before.before.before.before.before in
     let a = st.args in
     let s = lowers (slice a.from a.to a.file.now) in
     let n = length-lowered a.from a.to a.file.now st.requires.1 in
-    let l = c.before.before.before.before.before.loop in
+    let l = c.before.before.before.before.before.loop-i in
     let q = lowers_at a.from a.to a.file.now l.i (omega arith) in
     let e = c.before.before.lower.ensures in (
       omega arith,
       ⊎_elim
           (λ w. rw w.1 (compared-not l.differs a.word.now s l.i l.invariant.1 (omega arith) (omega arith) (λ p. w.0.taken (e ∙ sym (p ∙ q)))))
           (λ w. rw w.1 (compared-next l.differs a.word.now s l.i l.invariant.1 (omega arith) (omega arith) (sym (q ∙ sym e ∙ w.0.left))))
-          c.if2.branch,
+          c.if-lower-word.branch,
     )
 
-returns-2 : tie.Need-returns-2 invariant-loop decreases-loop
+returns-2 : tie.Need-returns invariant-loop decreases-loop
 returns-2 c =
     let st = c.before.before.before.before.before in
     let a = st.args in
     let s = lowers (slice a.from a.to a.file.now) in
     let n = length-lowered a.from a.to a.file.now st.requires.1 in
-    let l = c.before.loop in
+    let l = c.before.loop-i in
     sym (compared-end l.differs a.word.now s l.i l.invariant.1 (omega arith) (omega arith))
 
-pub is-word-in-any-case-spec : {M : Type 1} → statement M
-is-word-in-any-case-spec =
+pub is_word_in_any_case_spec : {M : Type 1} → statement M
+is_word_in_any_case_spec =
     tie.close
     (tie.spec
     invariant-loop decreases-loop (λ c. omega arith) returns loop-holds (λ c. omega arith) (λ c. omega arith)

@@ -8,32 +8,32 @@ use borrow.Author.Rules.{rules}
 use Rattle.cbf_lines.proofs.text.name_byte.Statement.{statement}
 use Rattle.cbf_lines.proofs.text.name_byte.Tie as tie
 
-returns : tie.Need-returns
+returns : tie.Need-returns-then-letter
 returns c =
     let b = c.before.before.args.b in
-    sym (ap (λ (t : Bool). t || (digit b || eqb b 45)) (sym c.before.letter.ensures ∙ c.if1.true))
+    sym (ap (λ (t : Bool). t || (digit b || eqb b 45)) (sym c.before.letter.ensures ∙ c.if-letter.true))
 
-returns-2 : tie.Need-returns-2
+returns-2 : tie.Need-returns-then-b-eq45
 returns-2 c =
     let b = c.before.before.before.args.b in
     sym (ap (λ (t : Bool). t || (digit b || eqb b 45)) (sym c.before.before.letter.ensures
-    ∙ c.before.if1.false) ∙ rw (lt-leb 48 b (omega arith), eq-eqb b 45 c.if2.true))
+    ∙ c.before.if-letter.false) ∙ rw (lt-leb 48 b (omega arith), eq-eqb b 45 c.if-b-eq45.true))
 
-returns-3 : tie.Need-returns-3
+returns-3 : tie.Need-returns-then-b-lt48
 returns-3 c =
     let b = c.before.before.before.before.args.b in
     sym (ap (λ (t : Bool). t || (digit b || eqb b 45)) (sym c.before.before.before.letter.ensures
-    ∙ c.before.before.if1.false) ∙ rw (lt-leb 48 b (omega arith), ne_eqb b 45 c.before.if2.false))
+    ∙ c.before.before.if-letter.false) ∙ rw (lt-leb 48 b (omega arith), ne_eqb b 45 c.before.if-b-eq45.false))
 
-returns-4 : tie.Need-returns-4
+returns-4 : tie.Need-returns
 returns-4 c =
     let b = c.before.before.before.before.args.b in
     sym (ap (λ (t : Bool). t || (digit b || eqb b 45)) (sym c.before.before.before.letter.ensures
-    ∙ c.before.before.if1.false) ∙ rw (
+    ∙ c.before.before.if-letter.false) ∙ rw (
       le-leb 48 b (omega arith),
-      ne_eqb b 45 c.before.if2.false,
+      ne_eqb b 45 c.before.if-b-eq45.false,
       or-false,
     ))
 
-pub name-byte-spec : {M : Type 1} → statement M
-name-byte-spec = tie.close (tie.spec (λ c κs. search rules) returns returns-2 returns-3 returns-4)
+pub name_byte_spec : {M : Type 1} → statement M
+name_byte_spec = tie.close (tie.spec (λ c κs. search rules) returns returns-2 returns-3 returns-4)

@@ -3,11 +3,11 @@ use native.Mathlib.Omega.{arith}
 use Rattle.cbf_lines.proofs.text.plain.Statement.{statement}
 use Rattle.cbf_lines.proofs.text.plain.Tie as tie
 
-returns : tie.Need-returns
+returns : tie.Need-returns-then-b-lt32
 returns c = rw (lt-leb 32 c.before.args.b (omega arith))
 
-returns-2 : tie.Need-returns-2
+returns-2 : tie.Need-returns
 returns-2 c = rw (le-leb 32 c.before.args.b (omega arith))
 
-pub plain-spec : {M : Type 1} → statement M
-plain-spec = tie.close (tie.spec returns returns-2)
+pub plain_spec : {M : Type 1} → statement M
+plain_spec = tie.close (tie.spec returns returns-2)

@@ -6,31 +6,31 @@ use Rattle.cbf_listing.proofs.ListingLaws.{refused-lines}
 use Rattle.cbf_listing.proofs.lines.lines.Statement.{statement}
 use Rattle.cbf_listing.proofs.lines.lines.Tie as tie
 
-lines-from-requires : tie.Need-lines-from-requires
+lines-from-requires : tie.Need-lines_from-requires
 lines-from-requires c κs =
     let s = c.before.before.before.before.before.before.before in
     let a = s.args in
-    let says = subst (StartSays a.limit a.file.now) c.before.before.started2.given.1
-    (c.before.before.before.before.begin.ensures a.limit) in
+    let says = subst (StartSays a.limit a.file.now) c.before.before.started-in-At-1.given.1
+    (c.before.before.before.before.begin-started.ensures a.limit) in
     (says.0, says.2, says.3, rw says.1 at s.requires)
 
-returns : tie.Need-returns
+returns : tie.Need-returns-in-Refused
 returns c =
     let s = c.before.before.before.before.before.before in
     let a = s.args in
-    let says = subst (StartSays a.limit a.file.now) c.before.started.given.1 (c.before.before.before.begin.ensures a.limit) in
-    rw says (refused-lines a.writing a.out.now c.before.started.given.0.0 (rw says at s.requires))
+    let says = subst (StartSays a.limit a.file.now) c.before.started-1.given.1 (c.before.before.before.begin-started.ensures a.limit) in
+    rw says (refused-lines a.writing a.out.now c.before.started-1.given.0.0 (rw says at s.requires))
 
-returns-2 : tie.Need-returns-2
+returns-2 : tie.Need-returns-in-At
 returns-2 c =
     let m = c.before.before in
     let b = m.before.before.before in
     let a = b.before.before.before.before.before.args in
-    let says = subst (StartSays a.limit a.file.now) b.started2.given.1 (b.before.before.begin.ensures a.limit) in
+    let says = subst (StartSays a.limit a.file.now) b.started-in-At-1.given.1 (b.before.before.begin-started.ensures a.limit) in
     rw says.1 m.lines_from.ensures
 
-pub lines-spec : {M : Type 1} → statement M
-lines-spec =
+pub lines_spec : {M : Type 1} → statement M
+lines_spec =
     tie.close
     (tie.spec
     (λ c κs. search rules) (λ c. search rules) (λ c. search rules) lines-from-requires returns

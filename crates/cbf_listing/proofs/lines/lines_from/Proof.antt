@@ -10,86 +10,86 @@ use Rattle.cbf_listing.proofs.LinesLaws.{listed-measured}
 use Rattle.cbf_listing.proofs.lines.lines_from.Statement.{statement}
 use Rattle.cbf_listing.proofs.lines.lines_from.Tie as tie
 
-abbrev invariant-loop : tie.invariant-loop
+abbrev invariant-loop : tie.invariant-loop-cursor
 invariant-loop file limit out₀ writing cursor₀ at₀ out cursor at = Listed limit file out₀ writing cursor at out
 
-abbrev decreases-loop : tie.decreases-loop
+abbrev decreases-loop : tie.decreases-loop-cursor
 decreases-loop file limit out₀ writing cursor₀ at₀ out cursor at = length file - cursor.at
 
-loop-holds : tie.Need-loop-init invariant-loop decreases-loop
+loop-holds : tie.Need-loop-cursor-init invariant-loop decreases-loop
 loop-holds c =
     let a = c.before.before.args in
     let p = c.before.before.requires in
     listed_start a.limit a.file.now a.out.now a.writing a.c p.0 p.2
 
-same_length : tie.Need-same-length invariant-loop decreases-loop
-same_length c = listed_kept c.before.before.before.before.before.before.loop.invariant
+same_length : tie.Need-shape_of-out-in-Refused invariant-loop decreases-loop
+same_length c = listed_kept c.before.before.before.before.before.before.loop-cursor.invariant
 
-returns : tie.Need-returns invariant-loop decreases-loop
+returns : tie.Need-returns-in-Refused invariant-loop decreases-loop
 returns c =
     let p = c.before.before.before.before.before.before.before.before.before.requires in
-    listed-refused c.before.before.before.before.before.before.loop.invariant
-    c.before.before.before.next-section.ensures p.3 c.before.next.given.1
+    listed-refused c.before.before.before.before.before.before.loop-cursor.invariant
+    c.before.before.before.next_section-next.ensures p.3 c.before.next-1.given.1
 
-same-length-2 : tie.Need-same-length-2 invariant-loop decreases-loop
-same-length-2 c = listed_kept c.before.before.before.before.before.loop.invariant
+same-length-2 : tie.Need-shape_of-out-in-End invariant-loop decreases-loop
+same-length-2 c = listed_kept c.before.before.before.before.before.loop-cursor.invariant
 
-returns-2 : tie.Need-returns-2 invariant-loop decreases-loop
-returns-2 c = listed-end c.before.before.before.before.before.loop.invariant c.before.before.next-section.ensures c.enum_told.given.1
+returns-2 : tie.Need-returns-in-End invariant-loop decreases-loop
+returns-2 c = listed-end c.before.before.before.before.before.loop-cursor.invariant c.before.before.next_section-next.ensures c.enum_told-1.given.1
 
-put-line-requires : tie.Need-put-line-requires invariant-loop decreases-loop
+put-line-requires : tie.Need-put_line-at-requires invariant-loop decreases-loop
 put-line-requires c κs =
     let t = c.before.before.before in
-    let k = t.before.before.before.before.before.loop.invariant in
+    let k = t.before.before.before.before.before.loop-cursor.invariant in
     let p = t.before.before.before.before.before.before.before.before.requires in
-    let b = listed-block k t.before.before.next-section.ensures t.next2.given.1 in
-    (b.0, b.1, listed-room k t.before.before.next-section.ensures t.next2.given.1 p.3 c.before.if2.true)
+    let b = listed-block k t.before.before.next_section-next.ensures t.next-in-Found-1.given.1 in
+    (b.0, b.1, listed-room k t.before.before.next_section-next.ensures t.next-in-Found-1.given.1 p.3 c.before.if-writing.true)
 
-line-length-requires : tie.Need-line-length-requires invariant-loop decreases-loop
+line-length-requires : tie.Need-line_length-at-requires invariant-loop decreases-loop
 line-length-requires c κs =
     let t = c.before.before in
-    let b = listed-block t.before.before.before.before.before.loop.invariant t.before.before.next-section.ensures t.next2.given.1 in
+    let b = listed-block t.before.before.before.before.before.loop-cursor.invariant t.before.before.next_section-next.ensures t.next-in-Found-1.given.1 in
     omega (arith, b)
 
-add_at : tie.Need-overflow-add-at invariant-loop decreases-loop
+add_at : tie.Need-overflow_add-at invariant-loop decreases-loop
 add_at c =
-    let k = c.before.before.before.before.before.before.before.before.loop.invariant in
-    omega (arith, k.bound, k.here.come.ready.few, c.line-length.ensures.1)
+    let k = c.before.before.before.before.before.before.before.before.loop-cursor.invariant in
+    omega (arith, k.bound, k.here.come.ready.few, c.line_length-at.ensures.1)
 
-loop-less : tie.Need-loop-smaller invariant-loop decreases-loop
+loop-less : tie.Need-loop-cursor-smaller-then-writing invariant-loop decreases-loop
 loop-less c =
     let t = c.before.before.before.before.before.before in
-    loop-onward t.before.before.before.before.before.loop.invariant.here
-    t.before.before.next-section.ensures t.next2.given.1 t.before.before.before.if1.true
+    loop-onward t.before.before.before.before.before.loop-cursor.invariant.here
+    t.before.before.next_section-next.ensures t.next-in-Found-1.given.1 t.before.before.before.loop-cursor-test.true
 
-loop-again : tie.Need-loop-preserved invariant-loop decreases-loop
+loop-again : tie.Need-loop-cursor-preserved-then-writing invariant-loop decreases-loop
 loop-again c =
     let t = c.before.before.before.before.before.before in
-    listed-written t.before.before.before.before.before.loop.invariant t.before.before.next-section.ensures
-    t.next2.given.1 c.before.before.before.before.if2.true c.before.before.put-line.ensures
+    listed-written t.before.before.before.before.before.loop-cursor.invariant t.before.before.next_section-next.ensures
+    t.next-in-Found-1.given.1 c.before.before.before.before.if-writing.true c.before.before.put_line-at.ensures
 
-loop-less-2 : tie.Need-loop-smaller-2 invariant-loop decreases-loop
+loop-less-2 : tie.Need-loop-cursor-smaller invariant-loop decreases-loop
 loop-less-2 c =
     let t = c.before.before.before in
-    loop-onward t.before.before.before.before.before.loop.invariant.here
-    t.before.before.next-section.ensures t.next2.given.1 t.before.before.before.if1.true
+    loop-onward t.before.before.before.before.before.loop-cursor.invariant.here
+    t.before.before.next_section-next.ensures t.next-in-Found-1.given.1 t.before.before.before.loop-cursor-test.true
 
-loop-again-2 : tie.Need-loop-preserved-2 invariant-loop decreases-loop
+loop-again-2 : tie.Need-loop-cursor-preserved invariant-loop decreases-loop
 loop-again-2 c =
     let t = c.before.before.before in
-    let k = t.before.before.before.before.before.loop.invariant in
-    let b = listed-block k t.before.before.next-section.ensures t.next2.given.1 in
+    let k = t.before.before.before.before.before.loop-cursor.invariant in
+    let b = listed-block k t.before.before.next_section-next.ensures t.next-in-Found-1.given.1 in
     let a = t.before.before.before.before.before.before.before.before.args in
-    listed-measured k t.before.before.next-section.ensures t.next2.given.1 c.before.if2.false (c.line-length.ensures.0 a.file.now b.1)
+    listed-measured k t.before.before.next_section-next.ensures t.next-in-Found-1.given.1 c.before.if-writing.false (c.line_length-at.ensures.0 a.file.now b.1)
 
-same-length-3 : tie.Need-same-length-3 invariant-loop decreases-loop
-same-length-3 c = listed_kept c.before.before.loop.invariant
+same-length-3 : tie.Need-shape_of-out invariant-loop decreases-loop
+same-length-3 c = listed_kept c.before.before.loop-cursor.invariant
 
-returns-3 : tie.Need-returns-3 invariant-loop decreases-loop
-returns-3 c = listed-past c.before.before.loop.invariant c.before.before.before.before.before.requires.1 c.if1.false
+returns-3 : tie.Need-returns invariant-loop decreases-loop
+returns-3 c = listed-past c.before.before.loop-cursor.invariant c.before.before.before.before.before.requires.1 c.loop-cursor-test.false
 
-pub lines-from-spec : {M : Type 1} → statement M
-lines-from-spec =
+pub lines_from_spec : {M : Type 1} → statement M
+lines_from_spec =
     tie.close
     (tie.spec
     invariant-loop decreases-loop loop-holds (λ c κs. search rules) (λ c. search rules) same_length returns

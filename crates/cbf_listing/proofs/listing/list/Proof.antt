@@ -9,47 +9,47 @@ use Rattle.cbf_listing.proofs.listing.list.Statement.{statement}
 use Rattle.cbf_format.specs.Files as F
 use Rattle.cbf_listing.proofs.listing.list.Tie as tie
 
-lines-requires : tie.Need-lines-requires
+lines-requires : tie.Need-lines-measured-requires
 lines-requires c κs = λ e. let z : ◌≡◌ {A = ℕ} 0 1 = cc in absurd (omega arith)
 
-returns : tie.Need-returns
+returns : tie.Need-returns-then-out-needed
 returns c =
     let b = c.before.before.before in
     let m = b.before.before.before.before in
     let a = m.before.before.before.before.args in
-    let r = list-no-room (F.read a.limit a.file.now) a.out.now b.measured2.given.0.0
-    (sym b.measured2.given.1 ∙ m.lines.ensures.0) (omega (arith, ap length m.lines.ensures.1)) in
-    (c.refused.ensures ∙ r.0, m.lines.ensures.1 ∙ r.1)
+    let r = list-no-room (F.read a.limit a.file.now) a.out.now b.measured-in-Length-1.given.0.0
+    (sym b.measured-in-Length-1.given.1 ∙ m.lines-measured.ensures.0) (omega (arith, ap length m.lines-measured.ensures.1)) in
+    (c.refused.ensures ∙ r.0, m.lines-measured.ensures.1 ∙ r.1)
 
-lines-requires-2 : tie.Need-lines-requires-2
+lines-requires-2 : tie.Need-lines-requires
 lines-requires-2 c κs =
     let b = c.before.before.before in
     let m = b.before.before.before.before in
     let a = m.before.before.before.before.args in
-    let r = list-has-room (F.read a.limit a.file.now) a.out.now b.measured2.given.0.0
-    (sym b.measured2.given.1 ∙ m.lines.ensures.0) (omega (arith, ap length m.lines.ensures.1)) in
-    λ e. rw m.lines.ensures.1 r.0
+    let r = list-has-room (F.read a.limit a.file.now) a.out.now b.measured-in-Length-1.given.0.0
+    (sym b.measured-in-Length-1.given.1 ∙ m.lines-measured.ensures.0) (omega (arith, ap length m.lines-measured.ensures.1)) in
+    λ e. rw m.lines-measured.ensures.1 r.0
 
-returns-2 : tie.Need-returns-2
+returns-2 : tie.Need-returns-in-Refused
 returns-2 c =
     let b = c.before in
     let m = b.before.before.before.before in
     let a = m.before.before.before.before.args in
-    let r = list-refused (F.read a.limit a.file.now) a.out.now b.decreases.given.0.0 (sym b.decreases.given.1 ∙ m.lines.ensures.0) in
-    (r.0, m.lines.ensures.1 ∙ r.1)
+    let r = list-refused (F.read a.limit a.file.now) a.out.now b.decreases.given.0.0 (sym b.decreases.given.1 ∙ m.lines-measured.ensures.0) in
+    (r.0, m.lines-measured.ensures.1 ∙ r.1)
 
-returns-3 : tie.Need-returns-3
+returns-3 : tie.Need-returns-else-out-needed
 returns-3 c =
     let w = c.before.before in
     let b = w.before.before.before.before in
     let m = b.before.before.before.before in
     let a = m.before.before.before.before.args in
-    let r = list-has-room (F.read a.limit a.file.now) a.out.now b.measured2.given.0.0
-    (sym b.measured2.given.1 ∙ m.lines.ensures.0) (omega (arith, ap length m.lines.ensures.1)) in
-    (r.1.0, w.lines2.ensures.1 ∙ rw m.lines.ensures.1 r.1.1)
+    let r = list-has-room (F.read a.limit a.file.now) a.out.now b.measured-in-Length-1.given.0.0
+    (sym b.measured-in-Length-1.given.1 ∙ m.lines-measured.ensures.0) (omega (arith, ap length m.lines-measured.ensures.1)) in
+    (r.1.0, w.lines.ensures.1 ∙ rw m.lines-measured.ensures.1 r.1.1)
 
-pub list-spec : {M : Type 1} → statement M
-list-spec =
+pub list_spec : {M : Type 1} → statement M
+list_spec =
     tie.close
     (tie.spec
     lines-requires (λ c. search rules) (λ c. search rules) (λ c κs. search rules) (λ c. search rules) returns

@@ -8,28 +8,28 @@ use Rattle.cbf_listing.proofs.listing.listing_or_refusal.Statement.{statement}
 use Rattle.cbf_format.specs.Files as F
 use Rattle.cbf_listing.proofs.listing.listing_or_refusal.Tie as tie
 
-returns : tie.Need-returns
+returns : tie.Need-returns-in-Length
 returns c =
     let b = c.before in
     let m = b.before.before.before.before in
     let a = m.before.before.before.before.args in
-    let e = sym (ap outcome b.answer.given.1) ∙ m.list.ensures.0 in
-    let q = shown-listing (F.read a.limit a.file.now) (length a.out.now) b.answer.given.0.0 e in
-    rw (q.0, ← q.1) (e, m.list.ensures.1)
+    let e = sym (ap outcome b.answer-1.given.1) ∙ m.list-answer.ensures.0 in
+    let q = shown-listing (F.read a.limit a.file.now) (length a.out.now) b.answer-1.given.0.0 e in
+    rw (q.0, ← q.1) (e, m.list-answer.ensures.1)
 
-returns-2 : tie.Need-returns-2
+returns-2 : tie.Need-returns-in-Refused
 returns-2 c =
     let w = c.before.before in
     let b = w.before.before.before in
     let m = b.before.before.before.before in
     let a = m.before.before.before.before.args in
-    let f = b.answer2.given.0.0 in
-    let e = sym (ap outcome b.answer2.given.1) ∙ m.list.ensures.0 in
-    let q = shown-refusal (F.read a.limit a.file.now) a.out.now f.number f.place e m.list.ensures.1 in
-    rw q.0 (rw q.1 at w.refusal-line.ensures)
+    let f = b.answer-in-Refused-1.given.0.0 in
+    let e = sym (ap outcome b.answer-in-Refused-1.given.1) ∙ m.list-answer.ensures.0 in
+    let q = shown-refusal (F.read a.limit a.file.now) a.out.now f.number f.place e m.list-answer.ensures.1 in
+    rw q.0 (rw q.1 at w.refusal_line.ensures)
 
-pub listing-or-refusal-spec : {M : Type 1} → statement M
-listing-or-refusal-spec =
+pub listing_or_refusal_spec : {M : Type 1} → statement M
+listing_or_refusal_spec =
     tie.close
     (tie.spec
     (λ c κs. search rules) (λ c. search rules) (λ c. search rules) (λ c κs. search rules) (λ c. search rules)

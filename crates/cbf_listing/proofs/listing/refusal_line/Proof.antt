@@ -11,16 +11,16 @@ use Rattle.cbf_answers.proofs.Rooms.{no_room, has_room}
 use Rattle.cbf_listing.proofs.listing.refusal_line.Statement.{statement}
 use Rattle.cbf_listing.proofs.listing.refusal_line.Tie as tie
 
-returns : tie.Need-returns
+returns : tie.Need-returns-then-out-n
 returns c =
     let a = c.before.before.before.before.before.before.args in
     let k = a.refusal.number in
     let p = a.refusal.place in
     let r = no_room (listing (refused k p)) a.out.now refl (omega (arith, refusal-length k p))
-    c.before.if1.true in
+    c.before.if-out-n.true in
     (c.refused.ensures ∙ r.0, r.1)
 
-returns-2 : tie.Need-returns-2
+returns-2 : tie.Need-returns
 returns-2 c =
     let t5 = c.before.before in
     let t4 = t5.before.before.before.before.before in
@@ -31,19 +31,17 @@ returns-2 c =
     let a = b.before.before.before.before.before.args in
     let k = a.refusal.number in
     let p = a.refusal.place in
-    let d1 = b.before.before.digit-count in
-    let d2 = b.before.digit-count2 in
+    let d1 = b.before.before.digit_count in
+    let d2 = b.before.digit_count-2 in
     let e : length (listing (refused k p)) ≡ 13 + d1.result + d2.result = rw (d1.ensures.0, d2.ensures.0) (refusal-length k p) in
-    let r = has_room (listing (refused k p)) a.out.now refl (sym e) b.if1.false in
-    let q = refusal-put a.out.now k p t1.put-text.ensures t2.put-number.ensures t3.put-text2.ensures
-    t4.put-number2.ensures t5.put-text3.ensures in
+    let r = has_room (listing (refused k p)) a.out.now refl (sym e) b.if-out-n.false in
+    let q = refusal-put a.out.now k p t1.put_text-after_word.ensures t2.put_number-after_number.ensures t3.put_text-after_at.ensures
+    t4.put_number-after_place.ensures t5.put_text.ensures in
     (r.0, q.1 ∙ r.1)
 
-pub refusal-line-spec : {M : Type 1} → statement M
-refusal-line-spec =
+pub refusal_line_spec : {M : Type 1} → statement M
+refusal_line_spec =
     tie.close
     (tie.spec
-    (λ c. search rules) (λ c κs. search rules) (λ c. search rules) (λ c κs. search rules) (λ c. search rules)
-    (λ c κs. search rules) returns (λ c. search rules) (λ c κs. search rules) (λ c κs. search rules)
-    (λ c. search rules) (λ c κs. search rules) (λ c κs. search rules) (λ c. search rules)
-    (λ c κs. search rules) (λ c. search rules) returns-2)
+
+    (λ c. search rules) (λ c κs. search rules) (λ c. search rules) (λ c κs. search rules) (λ c. search rules) (λ c κs. search rules) returns (λ c κs. search rules) (λ c κs. search rules) (λ c κs. search rules) (λ c κs. search rules) (λ c κs. search rules) (λ c. search rules) returns-2)

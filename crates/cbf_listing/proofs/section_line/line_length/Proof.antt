@@ -13,7 +13,7 @@ returns c =
     let block = s.args.section.block in (
       λ file h. omega (
         arith,
-        c.name-length.ensures.0 file h,
+        c.name_length.ensures.0 file h,
         line-lengths s.args.number
             s.args.section.first d.size d.elements d.compression d.kind (slice block.from block.to
             file),
@@ -21,8 +21,8 @@ returns c =
       omega arith,
     )
 
-pub line-length-spec : {M : Type 1} → statement M
-line-length-spec =
+pub line_length_spec : {M : Type 1} → statement M
+line_length_spec =
     tie.close
     (tie.spec
     (λ c κs. search rules) (λ c κs. search rules) (λ c. search rules) (λ c κs. search rules)

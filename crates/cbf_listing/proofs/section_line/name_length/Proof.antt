@@ -7,14 +7,14 @@ use Rattle.cbf_listing.proofs.SectionLineLaws.{name-empty, name-length}
 use Rattle.cbf_listing.proofs.section_line.name_length.Statement.{statement}
 use Rattle.cbf_listing.proofs.section_line.name_length.Tie as tie
 
-returns : tie.Need-returns
-returns c = (λ file h. rw (name-empty file _ _ c.if1.true) refl, omega arith)
+returns : tie.Need-returns-then-from-to
+returns c = (λ file h. rw (name-empty file _ _ c.if-from-to.true) refl, omega arith)
 
-returns-2 : tie.Need-returns-2
+returns-2 : tie.Need-returns
 returns-2 c =
     let s = c.before in
     let h : s.args.from < s.args.to = omega arith in
     (λ file k. name-length file s.args.from s.args.to h k, omega arith)
 
-pub name-length-spec : {M : Type 1} → statement M
-name-length-spec = tie.close (tie.spec returns (λ c. search rules) (λ c. search rules) returns-2)
+pub name_length_spec : {M : Type 1} → statement M
+name_length_spec = tie.close (tie.spec returns (λ c. search rules) (λ c. search rules) returns-2)

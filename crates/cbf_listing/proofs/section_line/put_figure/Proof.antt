@@ -7,25 +7,26 @@ use Rattle.cbf_listing.proofs.SectionLineLaws.{first_fits, rest-fits}
 use Rattle.cbf_listing.proofs.section_line.put_figure.Statement.{statement}
 use Rattle.cbf_listing.proofs.section_line.put_figure.Tie as tie
 
-put-number-requires : tie.Need-put-number-requires
+put-number-requires : tie.Need-put_number-end-requires
 put-number-requires c κs =
     let s = c.before.before in
     first_fits s.args.at (printed s.args.n) (32 ∷ []) s.requires
 
-put-text-requires : tie.Need-put-text-requires
+put-text-requires : tie.Need-put_text-requires
 put-text-requires c κs =
     let s = c.before.before.before.before.before.before.before in
-    rest-fits s.args.out.now s.args.at (printed s.args.n) (32 ∷ []) s.requires c.before.before.before.before.put-number.ensures
+    rest-fits s.args.out.now s.args.at (printed s.args.n) (32 ∷ []) s.requires c.before.before.before.before.put_number-end.ensures
 
 returns : tie.Need-returns
 returns c =
     let s = c.before.before.before.before.before.before.before.before.before.before in
     put_both s.args.out.now s.args.at (printed s.args.n) (32 ∷ [])
-    c.before.before.before.before.before.before.before.put-number.ensures
-    c.before.before.put-text.ensures
+    c.before.before.before.before.before.before.before.put_number-end.ensures
+    c.before.before.put_text.ensures
 
-pub put-figure-spec : {M : Type 1} → statement M
-put-figure-spec =
+pub put_figure_spec : {M : Type 1} → statement M
+put_figure_spec =
     tie.close
     (tie.spec
-    put-number-requires (λ c. search rules) put-text-requires (λ c. search rules) returns)
+
+    put-number-requires put-text-requires (λ c. search rules) returns)

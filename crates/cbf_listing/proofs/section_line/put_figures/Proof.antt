@@ -11,58 +11,58 @@ use Rattle.cbf_listing.proofs.section_line.put_figures.Tie as tie
 
 -- the room that is left after a number
 
-left-1 : (c : tie.After-put-figure) → let s = c.before.before.before.args in c.put-figure.result + length
-    (figure s.position ++ (figure s.size ++ figure s.elements)) ≤ length c.put-figure.new.0
+left-1 : (c : tie.After-put_figure-after_number) → let s = c.before.before.before.args in c.put_figure-after_number.result + length
+    (figure s.position ++ (figure s.size ++ figure s.elements)) ≤ length c.put_figure-after_number.new.0
 left-1 c =
     let s = c.before.before.before in
     rest-fits s.args.out.now s.args.at (figure s.args.number) (figure s.args.position
-    ++ (figure s.args.size ++ figure s.args.elements)) s.requires c.put-figure.ensures
+    ++ (figure s.args.size ++ figure s.args.elements)) s.requires c.put_figure-after_number.ensures
 
-left-2 : (c : tie.After-put-figure2) → let s = c.before.before.before.before.before.before.before.args in
-    c.put-figure2.result + length (figure s.size ++ figure s.elements) ≤ length c.put-figure2.new.0
+left-2 : (c : tie.After-put_figure-after_position) → let s = c.before.before.before.before.before.before.before.args in
+    c.put_figure-after_position.result + length (figure s.size ++ figure s.elements) ≤ length c.put_figure-after_position.new.0
 left-2 c =
     let s = c.before.before.before.before.before.before.before.args in
-    let p = c.before.before.before.before.put-figure in
+    let p = c.before.before.before.before.put_figure-after_number in
     rest-fits p.new.0 p.result (figure s.position) (figure s.size ++ figure s.elements)
-    (left-1 c.before.before.before.before) c.put-figure2.ensures
+    (left-1 c.before.before.before.before) c.put_figure-after_position.ensures
 
-put-figure-requires : tie.Need-put-figure-requires
+put-figure-requires : tie.Need-put_figure-after_number-requires
 put-figure-requires c κs =
     let s = c.before.before in
     first_fits s.args.at (figure s.args.number) (figure s.args.position ++ (figure s.args.size ++ figure s.args.elements)) s.requires
 
-put-figure-requires-2 : tie.Need-put-figure-requires-2
+put-figure-requires-2 : tie.Need-put_figure-after_position-requires
 put-figure-requires-2 c κs =
     let s = c.before.before.before.before.before.before.args in
-    first_fits c.before.before.before.put-figure.result (figure s.position) (figure s.size
+    first_fits c.before.before.before.put_figure-after_number.result (figure s.position) (figure s.size
     ++ figure s.elements) (left-1 c.before.before.before)
 
-put-figure-requires-3 : tie.Need-put-figure-requires-3
+put-figure-requires-3 : tie.Need-put_figure-after_size-requires
 put-figure-requires-3 c κs =
     let s = c.before.before.before.before.before.before.before.before.before.before.args in
-    first_fits c.before.before.before.put-figure2.result (figure s.size) (figure s.elements) (left-2 c.before.before.before)
+    first_fits c.before.before.before.put_figure-after_position.result (figure s.size) (figure s.elements) (left-2 c.before.before.before)
 
-put-figure-requires-4 : tie.Need-put-figure-requires-4
+put-figure-requires-4 : tie.Need-put_figure-requires
 put-figure-requires-4 c κs =
     let s = c.before.before.before.before.before.before.before.before.before.before.before.before.before.before.args in
-    let p = c.before.before.before.before.before.before.before.put-figure2 in
+    let p = c.before.before.before.before.before.before.before.put_figure-after_position in
     rest-fits p.new.0 p.result (figure s.size) (figure s.elements)
     (left-2 c.before.before.before.before.before.before.before)
-    c.before.before.before.put-figure3.ensures
+    c.before.before.before.put_figure-after_size.ensures
 
 returns : tie.Need-returns
 returns c =
     let s = c.before.before.before.before.before.before.before.before.before.before.before.before.before.before.before.before.before.args in
-    let p = c.before.before.before.before.before.before.before.before.before.before.before.before.before.before.put-figure in
-    let q = c.before.before.before.before.before.before.before.before.before.before.put-figure2 in
+    let p = c.before.before.before.before.before.before.before.before.before.before.before.before.before.before.put_figure-after_number in
+    let q = c.before.before.before.before.before.before.before.before.before.before.put_figure-after_position in
     put_both s.out.now s.at (figure s.number) (figure s.position ++ (figure s.size ++ figure s.elements)) p.ensures
     (put_both p.new.0 p.result (figure s.position) (figure s.size ++ figure s.elements) q.ensures
     (put_both q.new.0 q.result (figure s.size) (figure s.elements)
-    c.before.before.before.before.before.before.put-figure3.ensures
-    c.before.before.put-figure4.ensures))
+    c.before.before.before.before.before.before.put_figure-after_size.ensures
+    c.before.before.put_figure.ensures))
 
-pub put-figures-spec : {M : Type 1} → statement M
-put-figures-spec =
+pub put_figures_spec : {M : Type 1} → statement M
+put_figures_spec =
     tie.close
     (tie.spec
     put-figure-requires put-figure-requires-2 put-figure-requires-3 put-figure-requires-4 (λ c. search rules)

@@ -40,74 +40,74 @@ module _ (s : tie.Start) where
   pieces = line-pieces _ _ _ _ _ _ _
 
   fits : s.args.at + length (numbers ++ after-numbers) ≤ length s.args.out.now
-  fits = rw pieces at s.pre.2
+  fits = rw pieces at s.requires.2
 
 -- the room that is left after a piece
 
-left-1 : (c : tie.After-put-figures) → c.put-figures.result + length
-    (after-numbers c.before.before.before.before.before.before) ≤ length c.put-figures.new.0
+left-1 : (c : tie.After-put_figures-after_figures) → c.put_figures-after_figures.result + length
+    (after-numbers c.before.before.before.before.before.before) ≤ length c.put_figures-after_figures.new.0
 left-1 c = let s = c.before.before.before.before.before.before in rest-fits s.args.out.now s.args.at
-    (numbers s) (after-numbers s) (fits s) c.put-figures.ensures
+    (numbers s) (after-numbers s) (fits s) c.put_figures-after_figures.ensures
 
-left-2 : (c : tie.After-put-compression) → c.put-compression.result + length
+left-2 : (c : tie.After-put_compression-after_compression) → c.put_compression-after_compression.result + length
     (after-compression c.before.before.before.before.before.before.before.before.before.before) ≤ length
-    c.put-compression.new.0
+    c.put_compression-after_compression.new.0
 left-2 c =
     let s = c.before.before.before.before.before.before.before.before.before.before in
-    let p = c.before.before.before.before.put-figures in
-    rest-fits p.new.0 p.result (compression s) (after-compression s) (left-1 c.before.before.before.before) c.put-compression.ensures
+    let p = c.before.before.before.before.put_figures-after_figures in
+    rest-fits p.new.0 p.result (compression s) (after-compression s) (left-1 c.before.before.before.before) c.put_compression-after_compression.ensures
 
-left-3 : (c : tie.After-put-type) → c.put-type.result + length
-    (after-type c.before.before.before.before.before.before.before.before.before.before.before.before.before.before) ≤ length c.put-type.new.0
+left-3 : (c : tie.After-put_type-after_type) → c.put_type-after_type.result + length
+    (after-type c.before.before.before.before.before.before.before.before.before.before.before.before.before.before) ≤ length c.put_type-after_type.new.0
 left-3 c =
     let s = c.before.before.before.before.before.before.before.before.before.before.before.before.before.before in
-    let p = c.before.before.before.before.put-compression in
-    rest-fits p.new.0 p.result (type s) (after-type s) (left-2 c.before.before.before.before) c.put-type.ensures
+    let p = c.before.before.before.before.put_compression-after_compression in
+    rest-fits p.new.0 p.result (type s) (after-type s) (left-2 c.before.before.before.before) c.put_type-after_type.ensures
 
-put-figures-requires : tie.Need-put-figures-requires
+put-figures-requires : tie.Need-put_figures-after_figures-requires
 put-figures-requires c κs = let s = c.before.before.before.before.before in first_fits s.args.at (numbers s) (after-numbers s) (fits s)
 
-put-compression-requires : tie.Need-put-compression-requires
+put-compression-requires : tie.Need-put_compression-after_compression-requires
 put-compression-requires c κs = let s = c.before.before.before.before.before.before.before.before.before in
-    first_fits c.before.before.before.put-figures.result (compression s) (after-compression s)
+    first_fits c.before.before.before.put_figures-after_figures.result (compression s) (after-compression s)
     (left-1 c.before.before.before)
 
-put-type-requires : tie.Need-put-type-requires
-put-type-requires c κs = let s = c.before.before.before.before.before.before.before.before.before.before.before.before.before in first_fits c.before.before.before.put-compression.result (type s) (after-type s)
+put-type-requires : tie.Need-put_type-after_type-requires
+put-type-requires c κs = let s = c.before.before.before.before.before.before.before.before.before.before.before.before.before in first_fits c.before.before.before.put_compression-after_compression.result (type s) (after-type s)
     (left-2 c.before.before.before)
 
-put-name-requires : tie.Need-put-name-requires
+put-name-requires : tie.Need-put_name-after_name-requires
 put-name-requires c κs =
     let s = c.before.before.before.before.before.before.before.before.before.before.before.before.before.before.before.before.before in
-    (s.requires.0, s.requires.1, first_fits c.before.before.before.put-type.result (name s) (10 ∷ []) (left-3 c.before.before.before))
+    (s.requires.0, s.requires.1, first_fits c.before.before.before.put_type-after_type.result (name s) (10 ∷ []) (left-3 c.before.before.before))
 
-put-text-requires : tie.Need-put-text-requires
+put-text-requires : tie.Need-put_text-requires
 put-text-requires c κs =
     let s = c.before.before.before.before.before.before.before.before.before.before.before.before.before.before.before.before.before.before.before.before.before.before in
-    let p = c.before.before.before.before.before.before.before.before.put-type in
+    let p = c.before.before.before.before.before.before.before.before.put_type-after_type in
     rest-fits p.new.0 p.result (name s) (10 ∷ [])
     (left-3 c.before.before.before.before.before.before.before.before)
-    c.before.before.before.before.put-name.ensures
+    c.before.before.before.before.put_name-after_name.ensures
 
 returns : tie.Need-returns
 returns c =
     let s = c.before.before.before.before.before.before.before.before.before.before.before.before.before.before.before.before.before.before.before.before.before.before.before.before.before in
     let out = s.args.out.now in
     let at = s.args.at in
-    let p = c.before.before.before.before.before.before.before.before.before.before.before.before.before.before.before.before.before.before.before.put-figures in
-    let q = c.before.before.before.before.before.before.before.before.before.before.before.before.before.before.before.put-compression in
-    let r = c.before.before.before.before.before.before.before.before.before.before.before.put-type in
+    let p = c.before.before.before.before.before.before.before.before.before.before.before.before.before.before.before.before.before.before.before.put_figures-after_figures in
+    let q = c.before.before.before.before.before.before.before.before.before.before.before.before.before.before.before.put_compression-after_compression in
+    let r = c.before.before.before.before.before.before.before.before.before.before.before.put_type-after_type in
     rw (pieces s)
     (put_both out at (numbers s) (after-numbers s) p.ensures
     (put_both p.last.0 p.result (compression s) (after-compression s) q.ensures
     (put_both q.new.0 q.result (type s) (after-type s) r.ensures
     (put_both r.new.0 r.result (name s) (10 ∷ [])
-    c.before.before.before.before.before.before.before.put-name.ensures
-    c.before.before.put-text.ensures))))
+    c.before.before.before.before.before.before.before.put_name-after_name.ensures
+    c.before.before.put_text.ensures))))
 
-pub put-line-spec : {M : Type 1} → statement M
-put-line-spec =
+pub put_line_spec : {M : Type 1} → statement M
+put_line_spec =
     tie.close
     (tie.spec
-    put-figures-requires put-compression-requires put-type-requires put-name-requires (λ c. search rules)
-    put-text-requires (λ c. search rules) returns)
+
+    put-figures-requires put-compression-requires put-type-requires put-name-requires put-text-requires (λ c. search rules) returns)

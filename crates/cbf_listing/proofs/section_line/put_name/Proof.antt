@@ -19,42 +19,42 @@ module _ (s : tie.Start) where
   part = take (s.args.to - s.args.from) (drop s.args.from s.args.file.now)
 
   pieces : s.args.from < s.args.to → named (slice s.args.from s.args.to s.args.file.now) ≡ (32 ∷ []) ++ part
-  pieces h = name-pieces s.args.file.now s.args.from s.args.to h s.pre.1
+  pieces h = name-pieces s.args.file.now s.args.from s.args.to h s.requires.1
 
   fits : s.args.from < s.args.to → s.args.at + length ((32 ∷ []) ++ part) ≤ length s.args.out.now
-  fits h = rw (pieces h) at s.pre.2
+  fits h = rw (pieces h) at s.requires.2
 
-returns : tie.Need-returns
+returns : tie.Need-returns-then-from-to
 returns c =
     let a = c.before.before.before.args in
-    rw (name-empty a.file.now a.from a.to c.if1.true) (omega arith, refl)
+    rw (name-empty a.file.now a.from a.to c.if-from-to.true) (omega arith, refl)
 
-put-text-requires : tie.Need-put-text-requires
+put-text-requires : tie.Need-put_text-after_space-requires
 put-text-requires c κs =
     let s = c.before.before.before.before.before in
     first_fits s.args.at (32 ∷ []) (part s) (fits s (omega arith))
 
-put-text-requires-2 : tie.Need-put-text-requires-2
+put-text-requires-2 : tie.Need-put_text-requires
 put-text-requires-2 c κs =
     let s = c.before.before.before.before.before.before.before.before.before.before in
     rest-fits s.args.out.now s.args.at (32 ∷ []) (part s)
-    (fits s (omega (arith, c.before.before.before.before.before.before.before.if1.false)))
-    c.before.before.before.before.put-text.ensures
+    (fits s (omega (arith, c.before.before.before.before.before.before.before.if-from-to.false)))
+    c.before.before.before.before.put_text-after_space.ensures
 
-returns-2 : tie.Need-returns-2
+returns-2 : tie.Need-returns
 returns-2 c =
     let s = c.before.before.before.before.before.before.before.before.before.before.before.before.before in
     let out = s.args.out.now in
     rw (pieces s (omega (
       arith,
-      c.before.before.before.before.before.before.before.before.before.before.if1.false,
+      c.before.before.before.before.before.before.before.before.before.before.if-from-to.false,
     ))) (put_both out s.args.at (32 ∷ []) (part s)
-    c.before.before.before.before.before.before.before.put-text.ensures
-    c.before.before.put-text2.ensures)
+    c.before.before.before.before.before.before.before.put_text-after_space.ensures
+    c.before.before.put_text.ensures)
 
-pub put-name-spec : {M : Type 1} → statement M
-put-name-spec =
+pub put_name_spec : {M : Type 1} → statement M
+put_name_spec =
     tie.close
     (tie.spec
-    returns (λ c. search rules) put-text-requires (λ c. search rules) (λ c. search rules) (λ c. search rules)
-    put-text-requires-2 (λ c. search rules) returns-2)
+
+    returns put-text-requires (λ c. search rules) (λ c. search rules) (λ c. search rules) put-text-requires-2 (λ c. search rules) returns-2)

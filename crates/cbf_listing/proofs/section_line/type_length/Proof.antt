@@ -27,11 +27,11 @@ wider S16 h = refl
 wider U32 h = refl
 wider S32 h = refl
 
-returns-3 : tie.Need-returns-3
-returns-3 c = (wider c.before.args.kind c.match.keys3, omega arith)
+returns-3 : tie.Need-returns-in_default
+returns-3 c = (wider c.before.args.kind c.in_default.keys3, omega arith)
 
-pub type-length-spec : {M : Type 1} → statement M
-type-length-spec =
+pub type_length_spec : {M : Type 1} → statement M
+type_length_spec =
     tie.close
     (tie.spec
     (λ c. search rules) (λ c. search rules) (λ c. search rules) (λ c. search rules) returns-3)

@@ -13,10 +13,10 @@ widened z f = record { sfits = subst (λ (y : ℤ). mag y < 2 ^ 63) (sym (to_z-o
 widened_is : (z : ℤ) → SFits w32 z → to_z w64 (of_z w64 (to_z w32 (of_z w32 z))) ≡ z
 widened_is z f = to_z-of_z (widened z f) ∙ to_z-of_z f
 
-cast-result : tie.Need-overflow-cast-result
+cast-result : tie.Need-overflow_cast-result
 cast-result c = widened c.args.y c.ranges.y
 
-cast-result-2 : tie.Need-overflow-cast-result-2
+cast-result-2 : tie.Need-overflow_cast-result-2
 cast-result-2 c = widened c.args.z c.ranges.z
 
 both : (c : tie.Start) → to_z w64 (of_z w64 (to_z w32 (of_z w32 c.args.y))) -ℤ to_z w64 (of_z w64 (to_z w32 (of_z w32 c.args.z))) ≡ c.args.y -ℤ c.args.z
@@ -25,18 +25,18 @@ both c = ap₂ ◌-ℤ◌ (widened_is c.args.y c.ranges.y) (widened_is c.args.z 
 small : (c : tie.Start) → nat_abs (c.args.y -ℤ c.args.z) < 2 ^ 32
 small c = near_sub c.args.y c.args.z {H = 2 ^ 31} (omega arith) c.ranges.y.sfits c.ranges.z.sfits
 
-sub-result : tie.Need-overflow-sub-result
+sub-result : tie.Need-overflow_sub-result
 sub-result c = record { sfits = subst (λ (y : ℤ). mag y < 2 ^ 63) (sym (both c)) (omega (arith, mag-le (c.args.y -ℤ c.args.z), small c)) }
 
 is : (c : tie.Start)
     → to_z w64 (of_z w64 (to_z w64 (of_z w64 (to_z w32 (of_z w32 c.args.y))) -ℤ to_z w64 (of_z w64 (to_z w32 (of_z w32 c.args.z))))) ≡ c.args.y -ℤ c.args.z
 is c = to_z-of_z (sub-result c) ∙ both c
 
-cast-result-3 : tie.Need-overflow-cast-result-3
+cast-result-3 : tie.Need-overflow_cast-result-3
 cast-result-3 c = unsigned-32 _ (nat_abs (c.args.y -ℤ c.args.z)) (is c ∙ not-below c.args.y c.args.z c.requires) (small c)
 
 returns : tie.Need-returns
 returns c = ap nat_abs (is c)
 
-pub above-spec : {M : Type 1} → statement M
-above-spec = tie.close (tie.spec cast-result cast-result-2 sub-result cast-result-3 returns)
+pub above_spec : {M : Type 1} → statement M
+above_spec = tie.close (tie.spec cast-result cast-result-2 sub-result cast-result-3 returns)

@@ -3,17 +3,17 @@ use Rattle.cbf_measure.proofs.RangeLaws.{over_no, over_yes}
 use Rattle.cbf_measure.proofs.measure.beyond.Statement.{statement}
 use Rattle.cbf_measure.proofs.measure.beyond.Tie as tie
 
-returns : tie.Need-returns
+returns : tie.Need-returns-then-m-half
 returns c = (
-  sym (over_no (pos c.before.args.m) c.before.args.half (lt-ltb c.before.args.m c.before.args.half c.if1.true)),
+  sym (over_no (pos c.before.args.m) c.before.args.half (lt-ltb c.before.args.m c.before.args.half c.if-m-half.true)),
   omega arith,
 )
 
-returns-2 : tie.Need-returns-2
+returns-2 : tie.Need-returns-else-m-half
 returns-2 c = (
-  sym (over_yes (pos c.before.args.m) c.before.args.half (le-ltb c.before.args.m c.before.args.half c.if1.false)),
+  sym (over_yes (pos c.before.args.m) c.before.args.half (le-ltb c.before.args.m c.before.args.half c.if-m-half.false)),
   omega arith,
 )
 
-pub beyond-spec : {M : Type 1} → statement M
-beyond-spec = tie.close (tie.spec returns returns-2)
+pub beyond_spec : {M : Type 1} → statement M
+beyond_spec = tie.close (tie.spec returns returns-2)

@@ -4,38 +4,38 @@ use Rattle.cbf_measure.proofs.RangeLaws.{far_none, far-more, held-32}
 use Rattle.cbf_measure.proofs.measure.count_far.Statement.{statement}
 use Rattle.cbf_measure.proofs.measure.count_far.Tie as tie
 
-abbrev invariant-loop : tie.invariant-loop
+abbrev invariant-loop : tie.invariant-loop-j
 invariant-loop words four₀ j₀ four j = (j ≤ 128) × (four ≤ j) × (four ≡ far_steps words j)
 
-abbrev decreases-loop : tie.decreases-loop
+abbrev decreases-loop : tie.decreases-loop-j
 decreases-loop words four₀ j₀ four j = 128 - j
 
-loop-holds : tie.Need-loop-init invariant-loop decreases-loop
+loop-holds : tie.Need-loop-j-init invariant-loop decreases-loop
 loop-holds c = (omega arith, omega arith, sym (far_none c.args.words.now))
 
-add-four : tie.Need-overflow-add-four invariant-loop decreases-loop
-add-four c = omega (arith, c.beyond.ensures.1)
+add-four : tie.Need-overflow_add-four invariant-loop decreases-loop
+add-four c = omega (arith, c.beyond-four.ensures.1)
 
-loop-again : tie.Need-loop-preserved invariant-loop decreases-loop
+loop-again : tie.Need-loop-j-preserved invariant-loop decreases-loop
 loop-again c =
-    let l = c.before.before.before.before.before.loop in
+    let l = c.before.before.before.before.before.loop-j in
     let w = c.before.before.before.before.before.before.args.words.now in
-    let m = c.before.apart.result in
-    let gap = c.before.apart.ensures
-    ∙ ap₂ (λ y z. nat_abs (y -ℤ z)) (held-32 (get_or w (l.j + 1) (pos 0)) c.before.before.y.given)
-    (held-32 (get_or w l.j (pos 0)) c.before.before.before.z.given) in
-    let b = c.beyond.ensures in
+    let m = c.before.apart-m.result in
+    let gap = c.before.apart-m.ensures
+    ∙ ap₂ (λ y z. nat_abs (y -ℤ z)) (held-32 (get_or w (l.j + 1) (pos 0)) c.before.before.y-1.given)
+    (held-32 (get_or w l.j (pos 0)) c.before.before.before.z-1.given) in
+    let b = c.beyond-four.ensures in
     let f = far-more w l.j m gap in
     (omega arith, omega (arith, b.1), omega (arith, b.0, l.invariant.2))
 
 returns : tie.Need-returns invariant-loop decreases-loop
 returns c =
-    let l = c.before.loop in
+    let l = c.before.loop-j in
     let e : l.j ≡ 128 = omega arith in
     (l.invariant.2 ∙ ap (far_steps c.before.before.args.words.now) e, omega (arith, l.invariant.1))
 
-pub count-far-spec : {M : Type 1} → statement M
-count-far-spec =
+pub count_far_spec : {M : Type 1} → statement M
+count_far_spec =
     tie.close
     (tie.spec
     invariant-loop decreases-loop loop-holds (λ c. search rules) (λ c. search rules) (λ c. search rules) (λ c. search rules)

@@ -3,44 +3,44 @@ use Rattle.cbf_pixels.proofs.Forms.{narrow-true, narrow-false, form1, form2, for
 use Rattle.cbf_measure.proofs.measure.difference_size.Statement.{statement}
 use Rattle.cbf_measure.proofs.measure.difference_size.Tie as tie
 
-returns : tie.Need-returns
+returns : tie.Need-returns-then-narrow-2
 returns c =
     let s = c.before.before.before.before in
     let d = s.args.d in
     let f = s.ranges.d in
-    (form-size (form1 d (narrow-true d 128 _ f c.before.narrow2.ensures c.if2.true)), omega arith, omega arith)
+    (form-size (form1 d (narrow-true d 128 _ f c.before.narrow-then-narrow.ensures c.if-narrow-2.true)), omega arith, omega arith)
 
-returns-2 : tie.Need-returns-2
+returns-2 : tie.Need-returns-then-narrow
 returns-2 c =
     let s = c.before.before.before.before in
     let d = s.args.d in
     let f = s.ranges.d in (
-      form-size (form2 d (narrow-false d 128 _ f c.before.narrow2.ensures c.if2.false) (narrow-true d 32768 _ f
-          c.before.before.before.narrow.ensures c.before.before.if1.true)),
+      form-size (form2 d (narrow-false d 128 _ f c.before.narrow-then-narrow.ensures c.if-narrow-2.false) (narrow-true d 32768 _ f
+          c.before.before.before.narrow.ensures c.before.before.if-narrow.true)),
       omega arith,
       omega arith,
     )
 
-returns-3 : tie.Need-returns-3
+returns-3 : tie.Need-returns-then-narrow-3
 returns-3 c =
     let s = c.before.before.before.before in
     let d = s.args.d in
     let f = s.ranges.d in (
       form-size (form4 d (narrow-false d 32768 _ f c.before.before.before.narrow.ensures
-          c.before.before.if1.false) (narrow-true d 2147483648 _ f c.before.narrow3.ensures c.if3.true)),
+          c.before.before.if-narrow.false) (narrow-true d 2147483648 _ f c.before.narrow-2.ensures c.if-narrow-3.true)),
       omega arith,
       omega arith,
     )
 
-returns-4 : tie.Need-returns-4
+returns-4 : tie.Need-returns
 returns-4 c =
     let s = c.before.before.before.before in
     let d = s.args.d in
     let f = s.ranges.d in
-    (form-size (form8 d (narrow-false d 2147483648 _ f c.before.narrow3.ensures c.if3.false)), omega arith, omega arith)
+    (form-size (form8 d (narrow-false d 2147483648 _ f c.before.narrow-2.ensures c.if-narrow-3.false)), omega arith, omega arith)
 
-pub difference-size-spec : {M : Type 1} → statement M
-difference-size-spec =
+pub difference_size_spec : {M : Type 1} → statement M
+difference_size_spec =
     tie.close
     (tie.spec
     (λ c κs. search rules) (λ c κs. search rules) returns returns-2 (λ c κs. search rules) returns-3 returns-4)

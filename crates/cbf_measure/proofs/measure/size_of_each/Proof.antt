@@ -4,45 +4,45 @@ use Rattle.cbf_measure.proofs.MeasureLaws.{Measured, one_more_lem, one_out, held
 use Rattle.cbf_measure.proofs.measure.size_of_each.Statement.{statement}
 use Rattle.cbf_measure.proofs.measure.size_of_each.Tie as tie
 
-abbrev invariant-loop : tie.invariant-loop
+abbrev invariant-loop : tie.invariant-loop-j
 invariant-loop pixels k n last lo hi before₀ total₀ j₀ before total j =
     Measured pixels (to_z w64 lo) (to_z w64 hi) k j (to_z w64 last) (to_z w64 before) total × (j ≤ n) × (total ≤ 15 * j)
 
-abbrev decreases-loop : tie.decreases-loop
+abbrev decreases-loop : tie.decreases-loop-j
 decreases-loop pixels k n last lo hi before₀ total₀ j₀ before total j = n - j
 
-loop-holds : tie.Need-loop-init invariant-loop decreases-loop
+loop-holds : tie.Need-loop-j-init invariant-loop decreases-loop
 loop-holds c = (held_none c.ranges.lo c.ranges.hi c.ranges.last c.args.pixels.now c.args.k c.requires.0, omega arith, omega arith)
 
-pixel-size-requires : tie.Need-pixel-size-requires invariant-loop decreases-loop
-pixel-size-requires c κs = c.before.before.loop.invariant.0.typed
+pixel-size-requires : tie.Need-pixel_size-m-requires invariant-loop decreases-loop
+pixel-size-requires c κs = c.before.before.loop-j.invariant.0.typed
 
-returns : tie.Need-returns invariant-loop decreases-loop
+returns : tie.Need-returns-then-m-eq0 invariant-loop decreases-loop
 returns c =
-    let l = c.before.before.before.before.loop in
+    let l = c.before.before.before.before.loop-j in
     let s = c.before.before.before.before.before in
     let a = s.args in
-    let t = c.before.before.before.loop-test.true in
-    let o = one_out l.invariant.0 (a.k + l.j) c.before.pixel-size.result _ refl (omega (arith, s.requires.1))
-    (to_z-of_z (record { sfits = c.before.before.z.given })) c.before.pixel-size.ensures.0 c.if1.true
+    let t = c.before.before.before.loop-j-test.true in
+    let o = one_out l.invariant.0 (a.k + l.j) c.before.pixel_size-m.result _ refl (omega (arith, s.requires.1))
+    (to_z-of_z (record { sfits = c.before.before.z-1.given })) c.before.pixel_size-m.ensures.0 c.if-m-eq0.true
     a.n (omega arith) (omega arith) in
     (held-outside s.ranges.lo s.ranges.hi s.ranges.last (part a.pixels.now a.k a.n) o, omega arith)
 
-loop-again : tie.Need-loop-preserved invariant-loop decreases-loop
+loop-again : tie.Need-loop-j-preserved invariant-loop decreases-loop
 loop-again c =
-    let l = c.before.before.before.before.loop in
+    let l = c.before.before.before.before.loop-j in
     let s = c.before.before.before.before.before in
     let a = s.args in
-    let t = c.before.before.before.loop-test.true in (
-      one_more_lem l.invariant.0 (a.k + l.j) c.before.pixel-size.result _ refl (omega (arith, s.requires.1))
-          (to_z-of_z (record { sfits = c.before.before.z.given })) c.before.pixel-size.ensures.0 c.if1.false,
+    let t = c.before.before.before.loop-j-test.true in (
+      one_more_lem l.invariant.0 (a.k + l.j) c.before.pixel_size-m.result _ refl (omega (arith, s.requires.1))
+          (to_z-of_z (record { sfits = c.before.before.z-1.given })) c.before.pixel_size-m.ensures.0 c.if-m-eq0.false,
       omega arith,
       omega arith,
     )
 
-returns-2 : tie.Need-returns-2 invariant-loop decreases-loop
+returns-2 : tie.Need-returns invariant-loop decreases-loop
 returns-2 c =
-    let l = c.before.loop in
+    let l = c.before.loop-j in
     let s = c.before.before in
     let a = s.args in
     let e : l.j ≡ a.n = omega arith in (
@@ -51,8 +51,8 @@ returns-2 c =
       omega arith,
     )
 
-pub size-of-each-spec : {M : Type 1} → statement M
-size-of-each-spec =
+pub size_of_each_spec : {M : Type 1} → statement M
+size_of_each_spec =
     tie.close
     (tie.spec
     invariant-loop decreases-loop loop-holds (λ c. search rules) (λ c. search rules) (λ c. search rules) pixel-size-requires

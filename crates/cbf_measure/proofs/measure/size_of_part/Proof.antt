@@ -6,43 +6,43 @@ use Rattle.cbf_measure.proofs.RangeLaws.{part-words}
 use Rattle.cbf_measure.proofs.measure.size_of_part.Statement.{statement}
 use Rattle.cbf_measure.proofs.measure.size_of_part.Tie as tie
 
-returns : tie.Need-returns
+returns : tie.Need-returns-then-k-lt1
 returns c =
     let s = c.before.before in
     let a = s.args in
-    let r = c.size-of-each.ensures in
+    let r = c.size_of_each.ensures in
     ((held-is s.ranges.lo s.ranges.hi s.ranges.last (part a.pixels.now a.k a.n) r.0, r.1), s.requires.4)
 
-returns-2 : tie.Need-returns-2
+returns-2 : tie.Need-returns-then-n-lt128
 returns-2 c =
     let s = c.before.before.before in
     let a = s.args in
-    let r = c.size-of-each2.ensures in
+    let r = c.size_of_each-then-n-lt128.ensures in
     ((held-is s.ranges.lo s.ranges.hi s.ranges.last (part a.pixels.now a.k a.n) r.0, r.1), s.requires.4)
 
-returns-3 : tie.Need-returns-3
+returns-3 : tie.Need-returns-then-not-typed_words
 returns-3 c =
     let s = c.before.before.before.before.before.before in
     let a = s.args in (
-      (held-is s.ranges.lo s.ranges.hi s.ranges.last (part a.pixels.now a.k a.n) c.size-of-each3.ensures.0, c.size-of-each3.ensures.1),
-      c.before.before.typed-words.ensures.1,
+      (held-is s.ranges.lo s.ranges.hi s.ranges.last (part a.pixels.now a.k a.n) c.size_of_each-then-not-typed_words.ensures.0, c.size_of_each-then-not-typed_words.ensures.1),
+      c.before.before.typed_words.ensures.1,
     )
 
-returns-4 : tie.Need-returns-4
+returns-4 : tie.Need-returns
 returns-4 c =
     let s = c.before.before.before.before.before.before.before in
     let a = s.args in
-    let t = c.before.before.before.typed-words in
-    let r = c.size-of-words in
+    let t = c.before.before.before.typed_words in
+    let r = c.size_of_words in
     let e : a.n ≡ 128 = omega arith in
-    let both = t.ensures.0 (not-false t.result c.before.before.if3.false) in
+    let both = t.ensures.0 (not-false t.result c.before.before.if-not-typed_words.false) in
     let m = part-words (held a.lo) (held a.hi) a.pixels.now a.k a.n (held a.last) r.result t.new.1.1.1.1.1.0
     (omega arith) e s.requires.1
     (to_z-of_z s.ranges.last ∙ s.requires.3 (omega arith)) t.ensures.1 both r.ensures.0 in
     ((held-is s.ranges.lo s.ranges.hi s.ranges.last (part a.pixels.now a.k a.n) m, omega (arith, r.ensures.1)), t.ensures.1)
 
-pub size-of-part-spec : {M : Type 1} → statement M
-size-of-part-spec =
+pub size_of_part_spec : {M : Type 1} → statement M
+size_of_part_spec =
     tie.close
     (tie.spec
     (λ c κs. search rules) returns (λ c κs. search rules) returns-2 (λ c κs. search rules)

@@ -5,24 +5,24 @@ use Rattle.cbf_measure.proofs.RangeLaws.{within_signed, within-unsigned}
 use Rattle.cbf_measure.proofs.range.each_within.Statement.{statement}
 use Rattle.cbf_measure.proofs.range.each_within.Tie as tie
 
-returns : tie.Need-returns
+returns : tie.Need-returns-then-signed
 returns c = λ e.
     let a = c.before.before.args in
     let h = leb-true c.spread.result (a.limit + (a.limit + 1)) e in
-    subst (λ (b : Bool). EachWithin a.pixels.now a.k a.n (lowest b a.limit) (pos a.limit)) (sym c.before.if1.true)
+    subst (λ (b : Bool). EachWithin a.pixels.now a.k a.n (lowest b a.limit) (pos a.limit)) (sym c.before.if-signed.true)
     (λ j l. let s = c.spread.ensures j l in within_signed (get_or a.pixels.now (a.k + j) (pos 0)) a.limit c.before.before.requires.1
     (omega (arith, s.0), s.1))
 
-returns-2 : tie.Need-returns-2
+returns-2 : tie.Need-returns
 returns-2 c = λ e.
     let a = c.before.before.args in
-    let h = leb-true c.spread2.result a.limit e in
-    subst (λ (b : Bool). EachWithin a.pixels.now a.k a.n (lowest b a.limit) (pos a.limit)) (sym c.before.if1.false)
-    (λ j l. let s = c.spread2.ensures j l in within-unsigned (get_or a.pixels.now (a.k + j) (pos 0)) a.limit c.before.before.requires.1
+    let h = leb-true c.spread-2.result a.limit e in
+    subst (λ (b : Bool). EachWithin a.pixels.now a.k a.n (lowest b a.limit) (pos a.limit)) (sym c.before.if-signed.false)
+    (λ j l. let s = c.spread-2.ensures j l in within-unsigned (get_or a.pixels.now (a.k + j) (pos 0)) a.limit c.before.before.requires.1
     (omega (arith, s.0), s.1))
 
-pub each-within-spec : {M : Type 1} → statement M
-each-within-spec =
+pub each_within_spec : {M : Type 1} → statement M
+each_within_spec =
     tie.close
     (tie.spec
     (λ c. search rules) (λ c κs. search rules) (λ c. search rules) returns (λ c κs. search rules) returns-2)

@@ -6,7 +6,7 @@ use Rattle.cbf_measure.proofs.range.place.Tie as tie
 returns : tie.Need-returns
 returns c =
     let s = c.before.before in
-    c.wrapping-add-u64.ensures ∙ ap (λ (n : ℕ). (n + s.args.below) % 2 ^ 64) (c.before.bits-of-far.ensures ∙ ap (bits 8) (to_z-of_z s.ranges.z))
+    c.wrapping_add_u64.ensures ∙ ap (λ (n : ℕ). (n + s.args.below) % 2 ^ 64) (c.before.bits_of_far-n.ensures ∙ ap (bits 8) (to_z-of_z s.ranges.z))
 
-pub place-spec : {M : Type 1} → statement M
-place-spec = tie.close (tie.spec (λ c κs. search rules) (λ c κs. search rules) returns)
+pub place_spec : {M : Type 1} → statement M
+place_spec = tie.close (tie.spec (λ c κs. search rules) (λ c κs. search rules) returns)

@@ -7,32 +7,32 @@ use Rattle.cbf_measure.proofs.WindowLaws.{or-more}
 use Rattle.cbf_measure.proofs.range.spread.Statement.{statement}
 use Rattle.cbf_measure.proofs.range.spread.Tie as tie
 
-abbrev invariant-loop : tie.invariant-loop
+abbrev invariant-loop : tie.invariant-loop-j
 invariant-loop pixels k n below all₀ j₀ all j = (j ≤ n) × ((i : ℕ) → i < j → (bits 8 (get_or pixels (k + i) (pos 0)) + below) % 2 ^ 64 ≤ all)
     × ((i : ℕ) → i < j → mag (get_or pixels (k + i) (pos 0)) < 2 ^ 63)
 
-abbrev decreases-loop : tie.decreases-loop
+abbrev decreases-loop : tie.decreases-loop-j
 decreases-loop pixels k n below all₀ j₀ all j = n - j
 
-loop-holds : tie.Need-loop-init invariant-loop decreases-loop
+loop-holds : tie.Need-loop-j-init invariant-loop decreases-loop
 loop-holds c = (omega arith, (λ i h. let y : ⊥ = omega arith in absurd y), λ i h. let y : ⊥ = omega arith in absurd y)
 
-loop-again : tie.Need-loop-preserved invariant-loop decreases-loop
+loop-again : tie.Need-loop-j-preserved invariant-loop decreases-loop
 loop-again c =
-    let l = c.before.before.before.loop in
+    let l = c.before.before.before.loop-j in
     let s = c.before.before.before.before.args in
-    let e = c.place.ensures ∙ ap (λ (y : ℤ). (bits 8 y + s.below) % 2 ^ 64) (held (get_or s.pixels.now (s.k + l.j) (pos 0)) c.before.z.given) in (
+    let e = c.place-all.ensures ∙ ap (λ (y : ℤ). (bits 8 y + s.below) % 2 ^ 64) (held (get_or s.pixels.now (s.k + l.j) (pos 0)) c.before.z-1.given) in (
       omega arith,
       subst (λ (x : ℕ). (i : ℕ) → i < l.j + 1 → (bits 8 (get_or s.pixels.now (s.k + i) (pos 0)) + s.below) % 2 ^ 64 ≤ bit_or l.all x) (sym e)
           (or-more (λ (i : ℕ). (bits 8 (get_or s.pixels.now (s.k + i) (pos 0)) + s.below) % 2 ^ 64) l.j l.all l.invariant.1),
-      below_more (λ (i : ℕ). mag (get_or s.pixels.now (s.k + i) (pos 0)) < 2 ^ 63) l.j l.invariant.2 c.before.z.given,
+      below_more (λ (i : ℕ). mag (get_or s.pixels.now (s.k + i) (pos 0)) < 2 ^ 63) l.j l.invariant.2 c.before.z-1.given,
     )
 
 returns : tie.Need-returns invariant-loop decreases-loop
-returns c = λ j h. let l : j < c.before.loop.j = omega arith in (c.before.loop.invariant.1 j l, c.before.loop.invariant.2 j l)
+returns c = λ j h. let l : j < c.before.loop-j.j = omega arith in (c.before.loop-j.invariant.1 j l, c.before.loop-j.invariant.2 j l)
 
-pub spread-spec : {M : Type 1} → statement M
-spread-spec =
+pub spread_spec : {M : Type 1} → statement M
+spread_spec =
     tie.close
     (tie.spec
     invariant-loop decreases-loop loop-holds (λ c. search rules) (λ c. search rules) (λ c. search rules)

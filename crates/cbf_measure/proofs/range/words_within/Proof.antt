@@ -4,12 +4,12 @@ use Rattle.cbf_measure.proofs.RangeLaws.{gathered-within, gathered-steps}
 use Rattle.cbf_measure.proofs.range.words_within.Statement.{statement}
 use Rattle.cbf_measure.proofs.range.words_within.Tie as tie
 
-returns : tie.Need-returns
+returns : tie.Need-returns-then-signed
 returns c =
     let s = c.before.before.before in
     let a = s.args in
     let g = c.gather.ensures in
-    let b = ap (λ (t : Bool). raised_by t a.limit) (sym c.before.before.if1.true) in (
+    let b = ap (λ (t : Bool). raised_by t a.limit) (sym c.before.before.if-signed.true) in (
       (λ e.
           let most = leb-true c.gather.result (a.limit + (a.limit + 1)) e in (
             gathered-within a.signed a.limit (a.limit + 1) g b s.requires.2 most,
@@ -19,20 +19,20 @@ returns c =
       g.long,
     )
 
-returns-2 : tie.Need-returns-2
+returns-2 : tie.Need-returns
 returns-2 c =
     let s = c.before.before.before in
     let a = s.args in
-    let g = c.gather2.ensures in
-    let b = ap (λ (t : Bool). raised_by t a.limit) (sym c.before.before.if1.false) in (
+    let g = c.gather-2.ensures in
+    let b = ap (λ (t : Bool). raised_by t a.limit) (sym c.before.before.if-signed.false) in (
       (λ e.
-          let h = leb-true c.gather2.result a.limit e in
+          let h = leb-true c.gather-2.result a.limit e in
           (gathered-within a.signed a.limit 0 g b s.requires.2 (omega arith), gathered-steps a.signed a.limit 0 g b s.requires.2 (omega arith))),
       g.long,
     )
 
-pub words-within-spec : {M : Type 1} → statement M
-words-within-spec =
+pub words_within_spec : {M : Type 1} → statement M
+words_within_spec =
     tie.close
     (tie.spec
     (λ c. search rules) (λ c κs. search rules) (λ c. search rules) returns (λ c κs. search rules) returns-2)

@@ -5,44 +5,44 @@ use Rattle.cbf_measure.proofs.WindowLaws.{run_none, run_more}
 use Rattle.cbf_measure.proofs.window.window_run.Statement.{statement}
 use Rattle.cbf_measure.proofs.window.window_run.Tie as tie
 
-abbrev invariant-loop : tie.invariant-loop
+abbrev invariant-loop : tie.invariant-loop-n
 invariant-loop pixels k last left first n₀ n = WindowRun pixels k (to_z w64 last) n × (left ≡ length pixels - k)
 
-abbrev decreases-loop : tie.decreases-loop
+abbrev decreases-loop : tie.decreases-loop-n
 decreases-loop pixels k last left first n₀ n = left - n
 
-returns : tie.Need-returns invariant-loop decreases-loop
+returns : tie.Need-returns-then-left-lt1 invariant-loop decreases-loop
 returns c = run_none _ _ _ c.before.requires
 
-returns-2 : tie.Need-returns-2 invariant-loop decreases-loop
+returns-2 : tie.Need-returns-then-first-lt0 invariant-loop decreases-loop
 returns-2 c = run_none _ _ _ c.before.before.before.requires
 
-returns-3 : tie.Need-returns-3 invariant-loop decreases-loop
+returns-3 : tie.Need-returns-then-first-ge128 invariant-loop decreases-loop
 returns-3 c = run_none _ _ _ c.before.before.before.before.requires
 
-loop-holds : tie.Need-loop-init invariant-loop decreases-loop
+loop-holds : tie.Need-loop-n-init invariant-loop decreases-loop
 loop-holds c = (run_none _ _ _ c.before.before.before.before.requires, refl)
 
-returns-4 : tie.Need-returns-4 invariant-loop decreases-loop
+returns-4 : tie.Need-returns-then-not-same_window invariant-loop decreases-loop
 returns-4 c =
     let s = c.before.before.before.before.before.before.before.before in
-    subst (λ (z : ℤ). WindowRun s.args.pixels.now s.args.k z c.before.before.before.loop.n)
-    (to_z-of_z s.ranges.last) c.before.before.before.loop.invariant.0
+    subst (λ (z : ℤ). WindowRun s.args.pixels.now s.args.k z c.before.before.before.loop-n.n)
+    (to_z-of_z s.ranges.last) c.before.before.before.loop-n.invariant.0
 
-loop-again : tie.Need-loop-preserved invariant-loop decreases-loop
+loop-again : tie.Need-loop-n-preserved invariant-loop decreases-loop
 loop-again c = (
-  run_more c.before.before.before.loop.invariant.0 (c.before.same-window.ensures
-      (not-false c.before.same-window.result c.if4.false)) (omega arith),
+  run_more c.before.before.before.loop-n.invariant.0 (c.before.same_window.ensures
+      (not-false c.before.same_window.result c.if-not-same_window.false)) (omega arith),
   refl,
 )
 
-returns-5 : tie.Need-returns-5 invariant-loop decreases-loop
+returns-5 : tie.Need-returns invariant-loop decreases-loop
 returns-5 c =
     let s = c.before.before.before.before.before.before in
-    subst (λ (z : ℤ). WindowRun s.args.pixels.now s.args.k z c.before.loop.n) (to_z-of_z s.ranges.last) c.before.loop.invariant.0
+    subst (λ (z : ℤ). WindowRun s.args.pixels.now s.args.k z c.before.loop-n.n) (to_z-of_z s.ranges.last) c.before.loop-n.invariant.0
 
-pub window-run-spec : {M : Type 1} → statement M
-window-run-spec =
+pub window_run_spec : {M : Type 1} → statement M
+window_run_spec =
     tie.close
     (tie.spec
     invariant-loop decreases-loop (λ c. search rules) returns (λ c. search rules) (λ c. search rules) returns-2 returns-3

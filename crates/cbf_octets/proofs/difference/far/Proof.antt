@@ -6,20 +6,20 @@ use borrow.Author.Rules.{rules}
 use Rattle.cbf_octets.proofs.difference.far.Statement.{statement}
 use Rattle.cbf_octets.proofs.difference.far.Tie as tie
 
-returns : tie.Need-returns
+returns : tie.Need-returns-then-n-le8589934592
 returns c = far-up c.before.args.n (omega arith)
 
-returns-2 : tie.Need-returns-2
+returns-2 : tie.Need-returns-then-n-lt18446744065119617024
 returns-2 c = far-out c.before.before.args.n (omega arith) (omega arith)
 
-sub-result-2 : tie.Need-overflow-sub-result-2
+sub-result-2 : tie.Need-overflow_sub-result-2
 sub-result-2 c = record { sfits = far-fits c.before.before.args.n (omega arith) (omega arith) }
 
-returns-3 : tie.Need-returns-3
+returns-3 : tie.Need-returns
 returns-3 c = to_z-of_z (sub-result-2 c) ∙ far-down c.before.before.args.n (omega arith) (omega arith)
 
-pub far-spec : {M : Type 1} → statement M
-far-spec =
+pub far_spec : {M : Type 1} → statement M
+far_spec =
     tie.close
     (tie.spec
     (λ c. search rules) returns returns-2 (λ c. search rules) (λ c. search rules) sub-result-2 returns-3)

@@ -12,22 +12,22 @@ use Rattle.cbf_octets.proofs.difference.whole.Statement.{statement}
 use Rattle.cbf_octets.proofs.difference.whole.Tie as tie
 
 -- the widths that are left after an escape
-second : (c : tie.Else2) → Tries c.before.before.before.before.args.octets.now
+second : (c : tie.Else-octets-i) → Tries c.before.before.before.before.args.octets.now
     c.before.before.before.before.args.i (2 ∷ 4 ∷ 8 ∷ []) (c.before.before.before.before.args.i + 1)
 unfolding half
 second c = let a = c.before.before.before.before.args in tries-next (one-octet a.octets.now a.i
-    (omega arith)) (tries-first a.octets.now a.i) c.if2.false
+    (omega arith)) (tries-first a.octets.now a.i) c.if-octets-i.false
 
 number2 : (c : tie.After-le2) → Number c.before.before.before.before.before.before.args.octets.now
     (c.before.before.before.before.before.before.args.i + 1) 2 c.le2.result
     (c.before.before.before.before.before.before.args.i + 3)
 number2 c = record { is = c.le2.ensures.0; after = omega arith; inside = omega arith }
 
-third : (c : tie.Else4) → Tries c.before.before.before.before.before.before.before.args.octets.now
+third : (c : tie.Else-le2-ne32768) → Tries c.before.before.before.before.before.before.before.args.octets.now
     c.before.before.before.before.before.before.before.args.i (4 ∷ 8 ∷ [])
     (c.before.before.before.before.before.before.before.args.i + 3)
 unfolding half
-third c = tries-next (number2 c.before) (second c.before.before.before) c.if4.false
+third c = tries-next (number2 c.before) (second c.before.before.before) c.if-le2-ne32768.false
 
 number4 : (c : tie.After-le4) → Number
     c.before.before.before.before.before.before.before.before.before.args.octets.now
@@ -35,35 +35,35 @@ number4 : (c : tie.After-le4) → Number
     (c.before.before.before.before.before.before.before.before.before.args.i + 7)
 number4 c = record { is = c.le4.ensures.0; after = omega arith; inside = omega arith }
 
-fourth : (c : tie.Else6) → Tries c.before.before.before.before.before.before.before.before.before.before.args.octets.now c.before.before.before.before.before.before.before.before.before.before.args.i
+fourth : (c : tie.Else-le4-ne2147483648) → Tries c.before.before.before.before.before.before.before.before.before.before.args.octets.now c.before.before.before.before.before.before.before.before.before.before.args.i
     (8 ∷ []) (c.before.before.before.before.before.before.before.before.before.before.args.i + 7)
 unfolding half
-fourth c = tries-next (number4 c.before) (third c.before.before.before) c.if6.false
+fourth c = tries-next (number4 c.before) (third c.before.before.before) c.if-le4-ne2147483648.false
 
-returns : tie.Need-returns
+returns : tie.Need-returns-then-left-lt1
 returns c = let a = c.before.before.args in told-cut (tries-cut (tries-first a.octets.now a.i) (omega arith) (omega arith))
 
-returns-2 : tie.Need-returns-2
+returns-2 : tie.Need-returns-then-octets-i
 unfolding half
 returns-2 c = let a = c.before.before.before.before.args in told-got
     (tries-here (one-octet a.octets.now a.i (omega arith)) (tries-first a.octets.now a.i)
-    c.if2.true)
+    c.if-octets-i.true)
 
-returns-3 : tie.Need-returns-3
+returns-3 : tie.Need-returns-then-left-lt3
 returns-3 c = told-cut (tries-cut (second c.before) (omega arith) (omega arith))
 
-returns-4 : tie.Need-returns-4
+returns-4 : tie.Need-returns-then-le2-ne32768
 unfolding half
-returns-4 c = told-got (tries-here (number2 c.before) (second c.before.before.before) c.if4.true)
+returns-4 c = told-got (tries-here (number2 c.before) (second c.before.before.before) c.if-le2-ne32768.true)
 
-returns-5 : tie.Need-returns-5
+returns-5 : tie.Need-returns-then-left-lt7
 returns-5 c = told-cut (tries-cut (third c.before) (omega arith) (omega arith))
 
-returns-6 : tie.Need-returns-6
+returns-6 : tie.Need-returns-then-le4-ne2147483648
 unfolding half
-returns-6 c = told-got (tries-here (number4 c.before) (third c.before.before.before) c.if6.true)
+returns-6 c = told-got (tries-here (number4 c.before) (third c.before.before.before) c.if-le4-ne2147483648.true)
 
-returns-7 : tie.Need-returns-7
+returns-7 : tie.Need-returns
 returns-7 c =
     let a = c.before.before.before.before.before.before.before.before.before.before.args in (
       λ e.
@@ -76,8 +76,8 @@ returns-7 c =
           tries-cut (fourth c) (omega arith) (omega arith),
     )
 
-pub whole-spec : {M : Type 1} → statement M
-whole-spec =
+pub whole_spec : {M : Type 1} → statement M
+whole_spec =
     tie.close
     (tie.spec
     (λ c. search rules) returns (λ c. search rules) returns-2 returns-3 (λ c. search rules)

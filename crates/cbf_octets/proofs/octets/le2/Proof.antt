@@ -13,8 +13,8 @@ returns c =
     let high = number-one (a.i + 1) os (omega arith) in
     omega (arith, number-parts 1 1 a.i os (omega arith), low, high)
 
-pub le2-spec : {M : Type 1} → statement M
-le2-spec =
+pub le2_spec : {M : Type 1} → statement M
+le2_spec =
     tie.close
     (tie.spec
     (λ c. search rules) (λ c κs. search rules) (λ c. search rules) (λ c. search rules) (λ c κs. search rules)

@@ -7,8 +7,8 @@ use Rattle.cbf_octets.proofs.octets.le4.Tie as tie
 returns : tie.Need-returns
 returns c = let a = c.before.before.before.args in omega (arith, number-parts 2 2 a.i a.octets.now (omega arith))
 
-pub le4-spec : {M : Type 1} → statement M
-le4-spec =
+pub le4_spec : {M : Type 1} → statement M
+le4_spec =
     tie.close
     (tie.spec
     (λ c κs. search rules) (λ c. search rules) (λ c κs. search rules) (λ c. search rules) (λ c. search rules)

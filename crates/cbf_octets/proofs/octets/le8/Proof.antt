@@ -7,8 +7,8 @@ use Rattle.cbf_octets.proofs.octets.le8.Tie as tie
 returns : tie.Need-returns
 returns c = let a = c.before.before.before.args in omega (arith, number-parts 4 4 a.i a.octets.now (omega arith))
 
-pub le8-spec : {M : Type 1} → statement M
-le8-spec =
+pub le8_spec : {M : Type 1} → statement M
+le8_spec =
     tie.close
     (tie.spec
     (λ c κs. search rules) (λ c. search rules) (λ c κs. search rules) (λ c. search rules) (λ c. search rules)

@@ -7,5 +7,5 @@ returns : tie.Need-returns
 unfolding octets
 returns c = rw c.low.ensures
 
-pub put1-spec : {M : Type 1} → statement M
-put1-spec = tie.close (tie.spec (λ c κs. search rules) (λ c. search rules) (λ c. search rules) returns)
+pub put1_spec : {M : Type 1} → statement M
+put1_spec = tie.close (tie.spec (λ c κs. search rules) (λ c. search rules) (λ c. search rules) returns)

@@ -11,12 +11,12 @@ use Rattle.cbf_octets.proofs.octets.put8.Tie as tie
 returns : tie.Need-returns
 returns c =
     let a = c.before.before.before.before.before.before.before.before.before.args in
-    c.before.before.put42.ensures
+    c.before.before.put4-2.ensures
     ∙ ap (λ (l : List ℕ). sets l (a.at + 4) (octets 4 (a.n / 4294967296))) c.before.before.before.before.before.before.put4.ensures
     ∙ octets-parts a.out.now a.at 4 4 a.n
 
-pub put8-spec : {M : Type 1} → statement M
-put8-spec =
+pub put8_spec : {M : Type 1} → statement M
+put8_spec =
     tie.close
     (tie.spec
     (λ c κs. search rules) (λ c. search rules) (λ c κs. search rules) (λ c. search rules) returns)

@@ -5,11 +5,11 @@ use Rattle.cbf_pixels.proofs.Integers.{never}
 use Rattle.cbf_octets.proofs.plain.waits.Statement.{statement}
 use Rattle.cbf_octets.proofs.plain.waits.Tie as tie
 
-returns : tie.Need-returns
-returns c = (λ e. never e, λ _. inl c.if1.true)
+returns : tie.Need-returns-then-ended
+returns c = (λ e. never e, λ _. inl c.if-ended.true)
 
-returns-2 : tie.Need-returns-2
-returns-2 c = (λ e. (c.if1.false, ltb-true c.before.args.left 480 e), λ e. inr (ltb-false c.before.args.left 480 e))
+returns-2 : tie.Need-returns
+returns-2 c = (λ e. (c.if-ended.false, ltb-true c.before.args.left 480 e), λ e. inr (ltb-false c.before.args.left 480 e))
 
-pub waits-spec : {M : Type 1} → statement M
-waits-spec = tie.close (tie.spec returns returns-2)
+pub waits_spec : {M : Type 1} → statement M
+waits_spec = tie.close (tie.spec returns returns-2)

@@ -11,11 +11,11 @@ use Rattle.cbf_pack.proofs.dense.beyond.Tie as tie
 told : (c : tie.After-narrow) (t : Bool) → c.narrow.result ≡ t → ltb (nat_abs c.before.args.d) c.before.args.half ≡ t
 told c t e = ap (λ (z : ℤ). ltb (nat_abs z) c.before.args.half) (sym (to_z-of_z c.before.ranges.d)) ∙ sym c.narrow.ensures ∙ e
 
-returns : tie.Need-returns
-returns c = sym (over_no c.before.before.args.d c.before.before.args.half (told c.before true c.if1.true))
+returns : tie.Need-returns-then-narrow
+returns c = sym (over_no c.before.before.args.d c.before.before.args.half (told c.before true c.if-narrow.true))
 
-returns-2 : tie.Need-returns-2
-returns-2 c = sym (over_yes c.before.before.args.d c.before.before.args.half (told c.before false c.if1.false))
+returns-2 : tie.Need-returns-else-narrow
+returns-2 c = sym (over_yes c.before.before.args.d c.before.before.args.half (told c.before false c.if-narrow.false))
 
-pub beyond-spec : {M : Type 1} → statement M
-beyond-spec = tie.close (tie.spec (λ c κs. search rules) returns returns-2)
+pub beyond_spec : {M : Type 1} → statement M
+beyond_spec = tie.close (tie.spec (λ c κs. search rules) returns returns-2)

@@ -6,5 +6,5 @@ use Rattle.cbf_pack.proofs.dense.form_length.Tie as tie
 returns : tie.Need-returns
 returns c = length_is c.before.args.table.now c.before.args.c c.before.requires.0 c.before.requires.1
 
-pub form-length-spec : {M : Type 1} → statement M
-form-length-spec = tie.close (tie.spec (λ c. search rules) (λ c. search rules) (λ c. search rules) returns)
+pub form_length_spec : {M : Type 1} → statement M
+form_length_spec = tie.close (tie.spec (λ c. search rules) (λ c. search rules) (λ c. search rules) returns)

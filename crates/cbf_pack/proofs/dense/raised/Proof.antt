@@ -19,10 +19,10 @@ sum c = ap (λ (z : ℤ). z +ℤ pos 4294967296) (to_z-of_z c.ranges.d) ∙ lift
 small : (c : tie.Start) → lifted c.args.d 4294967296 < 2 ^ 33
 small c = omega (arith, lifted-lt c.args.d 4294967296 (own c))
 
-add-result : tie.Need-overflow-add-result
+add-result : tie.Need-overflow_add-result
 add-result c = fits-pos _ (lifted c.args.d 4294967296) (sum c) (omega (arith, small c))
 
-cast-result : tie.Need-overflow-cast-result
+cast-result : tie.Need-overflow_cast-result
 cast-result c = unsigned _ (lifted c.args.d 4294967296) (to_z-of_z (add-result c) ∙ sum c) (omega (arith, small c))
 
 returns : tie.Need-returns
@@ -30,5 +30,5 @@ returns c =
     let e = ap nat_abs (to_z-of_z (add-result c) ∙ sum c) in
     (ap pos e ∙ sym (lifted-is c.args.d 4294967296 (own c)), omega (arith, small c))
 
-pub raised-spec : {M : Type 1} → statement M
-raised-spec = tie.close (tie.spec add-result cast-result returns)
+pub raised_spec : {M : Type 1} → statement M
+raised_spec = tie.close (tie.spec add-result cast-result returns)

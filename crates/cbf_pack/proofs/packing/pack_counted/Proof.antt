@@ -4,41 +4,41 @@ use borrow.Author.Rules.{rules}
 use Rattle.cbf_pack.proofs.packing.pack_counted.Statement.{statement}
 use Rattle.cbf_pack.proofs.packing.pack_counted.Tie as tie
 
-returns : tie.Need-returns
+returns : tie.Need-returns-then-out-n
 unfolding Packed
 returns c =
     let s = c.before.before.before.before.before.before.before in
     let u = pack-no-room s.args.kind s.args.pixels.now s.args.out.now _ s.requires
-    (sym c.before.before.before.size.given.1 ∙ c.before.before.before.before.before.octet-count.ensures)
-    c.before.if1.true in
-    (c.refused2.ensures ∙ u.0, u.1)
+    (sym c.before.before.before.size-1.given.1 ∙ c.before.before.before.before.before.octet_count-size.ensures)
+    c.before.if-out-n.true in
+    (c.refused-then-out-n.ensures ∙ u.0, u.1)
 
-write-octets-requires : tie.Need-write-octets-requires
+write-octets-requires : tie.Need-write_octets-requires
 write-octets-requires c κs =
     let s = c.before.before.before.before.before.before.before in
     may_write s.args.kind s.args.pixels.now s.args.out.now _ s.requires
-    (sym c.before.before.before.size.given.1 ∙ c.before.before.before.before.before.octet-count.ensures)
-    c.before.if1.false
+    (sym c.before.before.before.size-1.given.1 ∙ c.before.before.before.before.before.octet_count-size.ensures)
+    c.before.if-out-n.false
 
-returns-2 : tie.Need-returns-2
+returns-2 : tie.Need-returns-in-Outside
 unfolding Packed
 returns-2 c =
     let s = c.before.before.before.before.before in
     let u = pack-outside s.args.kind s.args.pixels.now s.args.out.now s.requires
-    (sym c.before.enum_told.given.1 ∙ c.before.before.before.octet-count.ensures) in
+    (sym c.before.enum_told-1.given.1 ∙ c.before.before.before.octet_count-size.ensures) in
     (c.refused.ensures ∙ u.0, u.1)
 
-returns-3 : tie.Need-returns-3
+returns-3 : tie.Need-returns-else-out-n
 unfolding Packed
 returns-3 c =
     let s = c.before.before.before.before.before.before.before.before.before.before in
     pack-done s.args.kind s.args.pixels.now s.args.out.now _ s.requires
-    (sym c.before.before.before.before.before.before.size.given.1
-    ∙ c.before.before.before.before.before.before.before.before.octet-count.ensures) _
-    c.before.before.before.before.if1.false c.before.before.write-octets.ensures.1
+    (sym c.before.before.before.before.before.before.size-1.given.1
+    ∙ c.before.before.before.before.before.before.before.before.octet_count-size.ensures) _
+    c.before.before.before.before.if-out-n.false c.before.before.write_octets.ensures.1
 
-pub pack-counted-spec : {M : Type 1} → statement M
-pack-counted-spec =
+pub pack_counted_spec : {M : Type 1} → statement M
+pack_counted_spec =
     tie.close
     (tie.spec
     (λ c κs. search rules) (λ c. search rules) (λ c κs. search rules) (λ c. search rules)

@@ -19,10 +19,10 @@ sum c = lifted-sum c.args.d c.args.size c.ranges.d (omega arith) (omega arith)
 small : (c : tie.Start) → lifted c.args.d c.args.size < 2 ^ 63
 small c = omega (arith, lifted-lt c.args.d c.args.size (omega arith))
 
-add-result : tie.Need-overflow-add-result
+add-result : tie.Need-overflow_add-result
 add-result c = fits-pos _ (lifted c.args.d c.args.size) (sum c) (small c)
 
-cast-result-2 : tie.Need-overflow-cast-result-2
+cast-result-2 : tie.Need-overflow_cast-result-2
 cast-result-2 c = unsigned _ (lifted c.args.d c.args.size) (to_z-of_z (add-result c) ∙ sum c) (small c)
 
 returns : tie.Need-returns
@@ -30,5 +30,5 @@ returns c k e =
     ap (λ (n : ℕ). n % c.args.size) (ap nat_abs (to_z-of_z (add-result c) ∙ sum c))
     ∙ lifted-bits c.args.d c.args.size k (omega arith) e
 
-pub bits-of-spec : {M : Type 1} → statement M
-bits-of-spec = tie.close (tie.spec (λ c. search rules) add-result cast-result-2 (λ c. search rules) returns)
+pub bits_of_spec : {M : Type 1} → statement M
+bits_of_spec = tie.close (tie.spec (λ c. search rules) add-result cast-result-2 (λ c. search rules) returns)

@@ -14,11 +14,11 @@ unfolding octets
 returns c =
     let a = c.before.before.before.before.before.before.before.before.before.args in
     c.before.before.put8.ensures
-    ∙ ap (λ (l : List ℕ). sets l (a.at + 7) (octets 8 a.n)) c.before.before.before.before.before.before.put-7.ensures
+    ∙ ap (λ (l : List ℕ). sets l (a.at + 7) (octets 8 a.n)) c.before.before.before.before.before.before.put_7.ensures
     ∙ sets_then a.out.now a.at 7 (octets 1 128 ++ octets 2 32768 ++ octets 4 2147483648) (octets 8 a.n) refl
 
-pub put-15-spec : {M : Type 1} → statement M
-put-15-spec =
+pub put_15_spec : {M : Type 1} → statement M
+put_15_spec =
     tie.close
     (tie.spec
     (λ c κs. search rules) (λ c. search rules) (λ c κs. search rules) (λ c. search rules) returns)

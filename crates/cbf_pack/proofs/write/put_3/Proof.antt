@@ -17,8 +17,8 @@ returns c =
     ∙ ap (λ (l : List ℕ). sets l (a.at + 1) (octets 2 a.n)) c.before.before.before.before.before.before.put1.ensures
     ∙ sets_then a.out.now a.at 1 (octets 1 128) (octets 2 a.n) refl
 
-pub put-3-spec : {M : Type 1} → statement M
-put-3-spec =
+pub put_3_spec : {M : Type 1} → statement M
+put_3_spec =
     tie.close
     (tie.spec
     (λ c κs. search rules) (λ c. search rules) (λ c κs. search rules) (λ c. search rules) returns)

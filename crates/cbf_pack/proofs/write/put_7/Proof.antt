@@ -13,12 +13,12 @@ returns : tie.Need-returns
 unfolding octets
 returns c =
     let a = c.before.before.before.before.before.before.before.before.before.args in
-    c.before.before.put42.ensures
+    c.before.before.put4-2.ensures
     ∙ ap (λ (l : List ℕ). sets l (a.at + 3) (octets 4 a.n)) c.before.before.before.before.before.before.put4.ensures
     ∙ sets_over a.out.now a.at 3 0 (a.n % 256) (128 ∷ 0 ∷ 128 ∷ []) (octets 3 (a.n / 256)) refl
 
-pub put-7-spec : {M : Type 1} → statement M
-put-7-spec =
+pub put_7_spec : {M : Type 1} → statement M
+put_7_spec =
     tie.close
     (tie.spec
     (λ c κs. search rules) (λ c. search rules) (λ c κs. search rules) (λ c. search rules) returns)

@@ -15,48 +15,48 @@ use Rattle.cbf_pack.proofs.write.put_difference.Tie as tie
 
 -- what the tests say of the difference
 
-below-128 : (c : tie.Then1) → nat_abs c.before.before.before.args.d < 128
+below-128 : (c : tie.Then-narrow) → nat_abs c.before.before.before.args.d < 128
 below-128 c = narrow-true c.before.before.before.args.d 128 c.before.narrow.result c.before.before.before.ranges.d
-    c.before.narrow.ensures c.if1.true
+    c.before.narrow.ensures c.if-narrow.true
 
-from-128 : (c : tie.Else1) → 128 ≤ nat_abs c.before.before.before.args.d
+from-128 : (c : tie.Else-narrow) → 128 ≤ nat_abs c.before.before.before.args.d
 from-128 c = narrow-false c.before.before.before.args.d 128 c.before.narrow.result c.before.before.before.ranges.d
-    c.before.narrow.ensures c.if1.false
+    c.before.narrow.ensures c.if-narrow.false
 
-below-32768 : (c : tie.Then2) → nat_abs c.before.before.before.before.before.args.d < 32768
-below-32768 c = narrow-true c.before.before.before.before.before.args.d 32768 c.before.narrow2.result
-    c.before.before.before.before.before.ranges.d c.before.narrow2.ensures c.if2.true
+below-32768 : (c : tie.Then-narrow-2) → nat_abs c.before.before.before.before.before.args.d < 32768
+below-32768 c = narrow-true c.before.before.before.before.before.args.d 32768 c.before.narrow-2.result
+    c.before.before.before.before.before.ranges.d c.before.narrow-2.ensures c.if-narrow-2.true
 
-from-32768 : (c : tie.Else2) → 32768 ≤ nat_abs c.before.before.before.before.before.args.d
-from-32768 c = narrow-false c.before.before.before.before.before.args.d 32768 c.before.narrow2.result
-    c.before.before.before.before.before.ranges.d c.before.narrow2.ensures c.if2.false
+from-32768 : (c : tie.Else-narrow-2) → 32768 ≤ nat_abs c.before.before.before.before.before.args.d
+from-32768 c = narrow-false c.before.before.before.before.before.args.d 32768 c.before.narrow-2.result
+    c.before.before.before.before.before.ranges.d c.before.narrow-2.ensures c.if-narrow-2.false
 
-below-2147483648 : (c : tie.Then3) → nat_abs c.before.before.before.before.before.before.before.args.d < 2147483648
-below-2147483648 c = narrow-true c.before.before.before.before.before.before.before.args.d 2147483648 c.before.narrow3.result
-    c.before.before.before.before.before.before.before.ranges.d c.before.narrow3.ensures c.if3.true
+below-2147483648 : (c : tie.Then-narrow-3) → nat_abs c.before.before.before.before.before.before.before.args.d < 2147483648
+below-2147483648 c = narrow-true c.before.before.before.before.before.before.before.args.d 2147483648 c.before.narrow-3.result
+    c.before.before.before.before.before.before.before.ranges.d c.before.narrow-3.ensures c.if-narrow-3.true
 
-from-2147483648 : (c : tie.Else3) → 2147483648 ≤ nat_abs c.before.before.before.before.before.before.before.args.d
-from-2147483648 c = narrow-false c.before.before.before.before.before.before.before.args.d 2147483648 c.before.narrow3.result
-    c.before.before.before.before.before.before.before.ranges.d c.before.narrow3.ensures c.if3.false
+from-2147483648 : (c : tie.Else-narrow-3) → 2147483648 ≤ nat_abs c.before.before.before.before.before.before.before.args.d
+from-2147483648 c = narrow-false c.before.before.before.before.before.before.before.args.d 2147483648 c.before.narrow-3.result
+    c.before.before.before.before.before.before.before.ranges.d c.before.narrow-3.ensures c.if-narrow-3.false
 
 -- and of its octets
 
-form-1 : (c : tie.Then1) → Form c.before.before.before.args.d 1 (octets 1 (bits 1 c.before.before.before.args.d))
+form-1 : (c : tie.Then-narrow) → Form c.before.before.before.args.d 1 (octets 1 (bits 1 c.before.before.before.args.d))
 form-1 c = form1 c.before.before.before.args.d (below-128 c)
 
-form-3 : (c : tie.Then2) → Form c.before.before.before.before.before.args.d 3
+form-3 : (c : tie.Then-narrow-2) → Form c.before.before.before.before.before.args.d 3
     (octets 1 128 ++ octets 2 (bits 2 c.before.before.before.before.before.args.d))
 form-3 c = form2 c.before.before.before.before.before.args.d (from-128 c.before.before) (below-32768 c)
 
-form-7 : (c : tie.Then3) → Form c.before.before.before.before.before.before.before.args.d 7
+form-7 : (c : tie.Then-narrow-3) → Form c.before.before.before.before.before.before.before.args.d 7
     (octets 1 128 ++ octets 2 32768 ++ octets 4 (bits 4 c.before.before.before.before.before.before.before.args.d))
 form-7 c = form4 c.before.before.before.before.before.before.before.args.d (from-32768 c.before.before) (below-2147483648 c)
 
-form-15 : (c : tie.Else3) → Form c.before.before.before.before.before.before.before.args.d 15
+form-15 : (c : tie.Else-narrow-3) → Form c.before.before.before.before.before.before.before.args.d 15
     (octets 1 128 ++ octets 2 32768 ++ octets 4 2147483648 ++ octets 8 (bits 8 c.before.before.before.before.before.before.before.args.d))
 form-15 c = form8 c.before.before.before.before.before.before.before.args.d (from-2147483648 c)
 
-bits-of-requires : tie.Need-bits-of-requires
+bits-of-requires : tie.Need-bits_of-requires
 bits-of-requires c κs =
     let s = c.before.before.before.before in
     bits-asks s.args.d 256 s.ranges.d (omega arith) (omega arith) (omega (arith, below-128 c.before))
@@ -66,7 +66,7 @@ put1-requires c κs =
     let s = c.before.before.before.before.before in
     form-room s.args.at _ (form-1 c.before.before) s.requires
 
-returns : tie.Need-returns
+returns : tie.Need-returns-then-narrow
 returns c =
     let s = c.before.before.before.before.before.before.before.before in
     let out = s.args.out.now in
@@ -74,57 +74,57 @@ returns c =
     form-done out s.args.at _ (form-1 c.before.before.before.before.before)
     (c.before.before.put1.ensures ∙ ap (λ (n : ℕ). sets out s.args.at (octets 1 n)) b)
 
-bits-of-requires-2 : tie.Need-bits-of-requires-2
+bits-of-requires-2 : tie.Need-bits_of-requires-then-narrow-2
 bits-of-requires-2 c κs =
     let s = c.before.before.before.before.before.before in
     bits-asks s.args.d 65536 s.ranges.d (omega arith) (omega arith) (omega (arith, below-32768 c.before))
 
-put-3-requires : tie.Need-put-3-requires
+put-3-requires : tie.Need-put_3-requires
 put-3-requires c κs =
     let s = c.before.before.before.before.before.before.before in
     form-room s.args.at _ (form-3 c.before.before) s.requires
 
-returns-2 : tie.Need-returns-2
+returns-2 : tie.Need-returns-then-narrow-2
 returns-2 c =
     let s = c.before.before.before.before.before.before.before.before.before.before in
     let out = s.args.out.now in
-    let b = c.before.before.before.bits-of2.ensures 2 refl ∙ ap (bits 2) (to_z-of_z s.ranges.d) in
+    let b = c.before.before.before.bits_of-then-narrow-2.ensures 2 refl ∙ ap (bits 2) (to_z-of_z s.ranges.d) in
     form-done out s.args.at _ (form-3 c.before.before.before.before.before)
     (c.before.before.put_3.ensures ∙ ap (λ (n : ℕ). sets out s.args.at (octets 1 128 ++ octets 2 n)) b)
 
-bits-of-requires-3 : tie.Need-bits-of-requires-3
+bits-of-requires-3 : tie.Need-bits_of-requires-then-narrow-3
 bits-of-requires-3 c κs =
     let s = c.before.before.before.before.before.before.before.before in
     bits-asks s.args.d 4294967296 s.ranges.d (omega arith) (omega arith) (omega (arith, below-2147483648 c.before))
 
-put-7-requires : tie.Need-put-7-requires
+put-7-requires : tie.Need-put_7-requires
 put-7-requires c κs =
     let s = c.before.before.before.before.before.before.before.before.before in
     form-room s.args.at _ (form-7 c.before.before) s.requires
 
-returns-3 : tie.Need-returns-3
+returns-3 : tie.Need-returns-then-narrow-3
 returns-3 c =
     let s = c.before.before.before.before.before.before.before.before.before.before.before.before in
     let out = s.args.out.now in
-    let b = c.before.before.before.bits-of3.ensures 4 refl ∙ ap (bits 4) (to_z-of_z s.ranges.d) in
+    let b = c.before.before.before.bits_of-then-narrow-3.ensures 4 refl ∙ ap (bits 4) (to_z-of_z s.ranges.d) in
     form-done out s.args.at _ (form-7 c.before.before.before.before.before)
-    (c.before.before.put-7.ensures ∙ ap (λ (n : ℕ). sets out s.args.at (octets 1 128 ++ octets 2 32768 ++ octets 4 n)) b)
+    (c.before.before.put_7.ensures ∙ ap (λ (n : ℕ). sets out s.args.at (octets 1 128 ++ octets 2 32768 ++ octets 4 n)) b)
 
-put-15-requires : tie.Need-put-15-requires
+put-15-requires : tie.Need-put_15-requires
 put-15-requires c κs =
     let s = c.before.before.before.before.before.before.before.before.before in
     form-room s.args.at _ (form-15 c.before.before) s.requires
 
-returns-4 : tie.Need-returns-4
+returns-4 : tie.Need-returns
 returns-4 c =
     let s = c.before.before.before.before.before.before.before.before.before.before.before.before in
     let out = s.args.out.now in
-    let b = c.before.before.before.bits-of-far.ensures ∙ ap (bits 8) (to_z-of_z s.ranges.d) in
+    let b = c.before.before.before.bits_of_far.ensures ∙ ap (bits 8) (to_z-of_z s.ranges.d) in
     form-done out s.args.at _ (form-15 c.before.before.before.before.before)
-    (c.before.before.put-15.ensures ∙ ap (λ (n : ℕ). sets out s.args.at (octets 1 128 ++ octets 2 32768 ++ octets 4 2147483648 ++ octets 8 n)) b)
+    (c.before.before.put_15.ensures ∙ ap (λ (n : ℕ). sets out s.args.at (octets 1 128 ++ octets 2 32768 ++ octets 4 2147483648 ++ octets 8 n)) b)
 
-pub put-difference-spec : {M : Type 1} → statement M
-put-difference-spec =
+pub put_difference_spec : {M : Type 1} → statement M
+put_difference_spec =
     tie.close
     (tie.spec
     (λ c κs. search rules) bits-of-requires put1-requires (λ c. search rules) (λ c. search rules) returns

@@ -15,13 +15,13 @@ use Rattle.cbf_pack.proofs.WriteLaws.{window-writable, upto-near}
 use Rattle.cbf_pack.proofs.write.write_block.Statement.{statement}
 use Rattle.cbf_pack.proofs.write.write_block.Tie as tie
 
-abbrev invariant-loop : tie.invariant-loop
+abbrev invariant-loop : tie.invariant-loop-j
 invariant-loop pixels k last out₀ at before₀ j₀ out before j = Upto pixels k 32 (to_z w64 last) out₀ at j out before (at + j)
 
-abbrev decreases-loop : tie.decreases-loop
+abbrev decreases-loop : tie.decreases-loop-j
 decreases-loop pixels k last out₀ at before₀ j₀ out before j = 32 - j
 
-loop-holds : tie.Need-loop-init invariant-loop decreases-loop
+loop-holds : tie.Need-loop-j-init invariant-loop decreases-loop
 loop-holds c = upto-none refl (omega arith)
 
 in_window : (s : tie.Start invariant-loop decreases-loop) → InWindow s.args.pixels.now s.args.k (to_z w64 (of_z w64 s.args.last)) 32
@@ -31,39 +31,39 @@ writable : (s : tie.Start invariant-loop decreases-loop) → Writable s.args.pix
     (to_z w64 (of_z w64 s.args.last)) s.args.out.now s.args.at
 writable s = window-writable (in_window s) s.args.out.now s.args.at s.requires.3
 
-add-z : tie.Need-overflow-add-z invariant-loop decreases-loop
+add-z : tie.Need-overflow_add-z invariant-loop decreases-loop
 add-z c = omega (arith, (writable c.before.before.before).pixels)
 
-mul-z : tie.Need-overflow-mul-z invariant-loop decreases-loop
+mul-z : tie.Need-offset_bounds-pixels-k invariant-loop decreases-loop
 mul-z c = omega (arith, (writable c.before.before.before).pixels)
 
-shared-slice-copy-out-z : tie.Need-shared-slice-copy-out-z invariant-loop decreases-loop
+shared-slice-copy-out-z : tie.Need-bounds-pixels-k invariant-loop decreases-loop
 shared-slice-copy-out-z c = omega (arith, (writable c.before.before.before).pixels)
 
-add-put1 : tie.Need-overflow-add-put1 invariant-loop decreases-loop
+add-put1 : tie.Need-overflow_add-at invariant-loop decreases-loop
 add-put1 c = omega (arith, c.before.before.before.before.before.requires.3)
 
-room : (c : tie.After-put1-arg invariant-loop decreases-loop)
+room : (c : tie.After-put1-arg-1 invariant-loop decreases-loop)
     → Writable c.before.before.before.before.before.args.pixels.now
-    (c.before.before.before.before.before.args.k + c.before.before.before.loop.j) 1
-    (to_z w64 c.before.before.before.loop.before) c.before.before.before.loop.out
-    (c.before.before.before.before.before.args.at + c.before.before.before.loop.j)
-room c = upto-writable (writable c.before.before.before.before.before) c.before.before.before.loop.invariant 1 _ refl (omega arith)
+    (c.before.before.before.before.before.args.k + c.before.before.before.loop-j.j) 1
+    (to_z w64 c.before.before.before.loop-j.before) c.before.before.before.loop-j.out
+    (c.before.before.before.before.before.args.at + c.before.before.before.loop-j.j)
+room c = upto-writable (writable c.before.before.before.before.before) c.before.before.before.loop-j.invariant 1 _ refl (omega arith)
 
 -- the difference takes one octet
-near : (c : tie.After-put1-arg invariant-loop decreases-loop)
+near : (c : tie.After-put1-arg-1 invariant-loop decreases-loop)
     → nat_abs (to_z w64 (of_z w64 (gap c.before.before.before.before.before.args.pixels.now
-    (c.before.before.before.before.before.args.k + c.before.before.before.loop.j)
-    c.before.before.before.loop.before))) < 128
+    (c.before.before.before.before.before.args.k + c.before.before.before.loop-j.j)
+    c.before.before.before.loop-j.before))) < 128
 near c =
-    let l = c.before.before.before.loop in
+    let l = c.before.before.before.loop-j in
     subst (λ (z : ℤ). nat_abs z < 128) (sym (gap_word l.before (room c)))
     (upto-near (in_window c.before.before.before.before.before) l.invariant (omega arith))
 
-sub-bits-of : tie.Need-overflow-sub-bits-of invariant-loop decreases-loop
-sub-bits-of c = gap-fits c.before.before.before.loop.before (room c)
+sub-bits-of : tie.Need-overflow_sub-z invariant-loop decreases-loop
+sub-bits-of c = gap-fits c.before.before.before.loop-j.before (room c)
 
-bits-of-requires : tie.Need-bits-of-requires invariant-loop decreases-loop
+bits-of-requires : tie.Need-bits_of-requires invariant-loop decreases-loop
 bits-of-requires c κs = omega (arith, near c)
 
 put1-requires : tie.Need-put1-requires invariant-loop decreases-loop
@@ -71,27 +71,27 @@ put1-requires c κs = omega (
   arith,
   c.before.before.before.before.before.before.requires.3,
   wrote-length
-      c.before.before.before.before.loop.invariant.wrote,
+      c.before.before.before.before.loop-j.invariant.wrote,
 )
 
-loop-again : tie.Need-loop-preserved invariant-loop decreases-loop
+loop-again : tie.Need-loop-j-preserved invariant-loop decreases-loop
 loop-again c =
     let s = c.before.before.before.before.before.before.before.before.before in
-    let l = c.before.before.before.before.before.before.before.loop in
+    let l = c.before.before.before.before.before.before.before.loop-j in
     let d = to_z w64 (of_z w64 (gap s.args.pixels.now (s.args.k + l.j) l.before)) in
     let p =
-    form-done l.out (s.args.at + l.j) c.before.before.put1.new.0 (form1 d (near c.before.before.before.before))
-    (c.before.before.put1.ensures ∙ ap (λ (n : ℕ). sets l.out (s.args.at + l.j) (octets 1 n)) (c.before.before.before.bits_of.ensures 1 refl)) in
+    form-done l.out-1 (s.args.at + l.j) c.before.before.put1.new.0 (form1 d (near c.before.before.before.before))
+    (c.before.before.put1.ensures ∙ ap (λ (n : ℕ). sets l.out-1 (s.args.at + l.j) (octets 1 n)) (c.before.before.before.bits_of.ensures 1 refl)) in
     upto-one (writable s) l.invariant (s.args.k + l.j) refl (omega arith) (omega (arith, p.0), p.1)
 
-same_length : tie.Need-same-length invariant-loop decreases-loop
-same_length c = wrote-length c.before.loop.invariant.wrote
+same_length : tie.Need-shape_of-out invariant-loop decreases-loop
+same_length c = wrote-length c.before.loop-j.invariant.wrote
 
 returns : tie.Need-returns invariant-loop decreases-loop
-returns c = (upto_all c.before.loop.invariant c.before.before.before.requires.2 (omega arith)).octets
+returns c = (upto_all c.before.loop-j.invariant c.before.before.before.requires.2 (omega arith)).octets
 
-pub write-block-spec : {M : Type 1} → statement M
-write-block-spec =
+pub write_block_spec : {M : Type 1} → statement M
+write_block_spec =
     tie.close
     (tie.spec
     invariant-loop decreases-loop loop-holds add-z mul-z shared-slice-copy-out-z add-put1 sub-bits-of bits-of-requires

@@ -10,43 +10,43 @@ use Rattle.cbf_pack.proofs.WriteLaws.{upto_all, upto-writable, upto-one}
 use Rattle.cbf_pack.proofs.write.write_each.Statement.{statement}
 use Rattle.cbf_pack.proofs.write.write_each.Tie as tie
 
-abbrev invariant-loop : tie.invariant-loop
+abbrev invariant-loop : tie.invariant-loop-j
 invariant-loop pixels k n last out₀ at before₀ next₀ j₀ out before next j =
     Upto pixels k n (to_z w64 last) out₀ at j out before next
 
-abbrev decreases-loop : tie.decreases-loop
+abbrev decreases-loop : tie.decreases-loop-j
 decreases-loop pixels k n last out₀ at before₀ next₀ j₀ out before next j = n - j
 
-loop-holds : tie.Need-loop-init invariant-loop decreases-loop
+loop-holds : tie.Need-loop-j-init invariant-loop decreases-loop
 loop-holds c = upto-none refl refl
 
-room : (c : tie.After-put-difference-arg invariant-loop decreases-loop)
+room : (c : tie.After-put_difference-arg-1 invariant-loop decreases-loop)
     → Writable c.before.before.before.before.before.args.pixels.now
-    (c.before.before.before.before.before.args.k + c.before.before.before.loop.j) 1
-    (to_z w64 c.before.before.before.loop.before) c.before.before.before.loop.out
-    c.before.before.before.loop.next
-room c = upto-writable (writable-word c.before.before.before.before.before.requires) c.before.before.before.loop.invariant 1 _ refl (omega arith)
+    (c.before.before.before.before.before.args.k + c.before.before.before.loop-j.j) 1
+    (to_z w64 c.before.before.before.loop-j.before) c.before.before.before.loop-j.out
+    c.before.before.before.loop-j.next
+room c = upto-writable (writable-word c.before.before.before.before.before.requires) c.before.before.before.loop-j.invariant 1 _ refl (omega arith)
 
-sub-put-difference : tie.Need-overflow-sub-put-difference invariant-loop decreases-loop
-sub-put-difference c = gap-fits c.before.before.before.loop.before (room c)
+sub-put-difference : tie.Need-overflow_sub-z invariant-loop decreases-loop
+sub-put-difference c = gap-fits c.before.before.before.loop-j.before (room c)
 
-put-difference-requires : tie.Need-put-difference-requires invariant-loop decreases-loop
-put-difference-requires c κs = gap-room c.before.before.before.loop.before (room c)
+put-difference-requires : tie.Need-put_difference-next-requires invariant-loop decreases-loop
+put-difference-requires c κs = gap-room c.before.before.before.loop-j.before (room c)
 
-loop-again : tie.Need-loop-preserved invariant-loop decreases-loop
+loop-again : tie.Need-loop-j-preserved invariant-loop decreases-loop
 loop-again c =
     let s = c.before.before.before.before.before.before.before.before in
-    let l = c.before.before.before.before.before.before.loop in
-    upto-one (writable-word s.requires) l.invariant (s.args.k + l.j) refl (omega arith) c.before.before.put-difference.ensures
+    let l = c.before.before.before.before.before.before.loop-j in
+    upto-one (writable-word s.requires) l.invariant (s.args.k + l.j) refl (omega arith) c.before.before.put_difference-next.ensures
 
-same_length : tie.Need-same-length invariant-loop decreases-loop
-same_length c = wrote-length c.before.loop.invariant.wrote
+same_length : tie.Need-shape_of-out invariant-loop decreases-loop
+same_length c = wrote-length c.before.loop-j.invariant.wrote
 
 returns : tie.Need-returns invariant-loop decreases-loop
-returns c = upto_all c.before.loop.invariant c.before.before.before.requires.before (omega arith)
+returns c = upto_all c.before.loop-j.invariant c.before.before.before.requires.before (omega arith)
 
-pub write-each-spec : {M : Type 1} → statement M
-write-each-spec =
+pub write_each_spec : {M : Type 1} → statement M
+write_each_spec =
     tie.close
     (tie.spec
     invariant-loop decreases-loop loop-holds (λ c. omega arith) (λ c. omega arith) (λ c. omega arith) sub-put-difference

@@ -8,25 +8,25 @@ use Rattle.cbf_pack.proofs.WriteLaws.{wrote_as, writable-word, wrote-word}
 use Rattle.cbf_pack.proofs.write.write_few.Statement.{statement}
 use Rattle.cbf_pack.proofs.write.write_few.Tie as tie
 
-write-each-requires : tie.Need-write-each-requires
+write-each-requires : tie.Need-write_each-requires
 write-each-requires c κs = writable-word c.before.before.before.requires.0
 
-returns : tie.Need-returns
-returns c = wrote-word c.before.before.before.before.before.before.requires.0.before c.before.before.write-each.ensures
+returns : tie.Need-returns-then-n-lt128
+returns c = wrote-word c.before.before.before.before.before.before.requires.0.before c.before.before.write_each.ensures
 
-write-128-requires : tie.Need-write-128-requires
+write-128-requires : tie.Need-write_128-requires
 write-128-requires c κs =
     let s = c.before.before.before in
     let e : s.args.n ≡ 128 = omega arith in
     writable-word (subst (λ (m : ℕ). Writable s.args.pixels.now s.args.k m s.args.last s.args.out.now s.args.at) e s.requires.0)
 
-returns-2 : tie.Need-returns-2
+returns-2 : tie.Need-returns
 returns-2 c =
     let s = c.before.before.before.before.before.before in
-    wrote_as (wrote-word s.requires.0.before c.before.before.write-128.ensures) (omega arith) refl refl
+    wrote_as (wrote-word s.requires.0.before c.before.before.write_128.ensures) (omega arith) refl refl
 
-pub write-few-spec : {M : Type 1} → statement M
-write-few-spec =
+pub write_few_spec : {M : Type 1} → statement M
+write_few_spec =
     tie.close
     (tie.spec
     write-each-requires (λ c. search rules) returns write-128-requires (λ c. search rules) returns-2)

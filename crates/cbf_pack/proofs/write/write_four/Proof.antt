@@ -27,79 +27,79 @@ room s u i e l = upto-writable s.requires u 1 i e l
 state-0 : (s : tie.Start) → State s 0 s.args.out.now (of_z w64 s.args.last) s.args.at
 state-0 s = upto-none (small_word s.args.last s.requires.before) refl
 
-state-1 : (c : tie.After-slice-known2) → State c.before.before.before.before.before.before 1
-    c.before.before.put-difference.new.0 (word_at c.before.before.before.before.before.before
-    c.before.before.before.before.before.before.args.k) c.before.before.put-difference.result
+state-1 : (c : tie.After-slice_known-2-1) → State c.before.before.before.before.before.before 1
+    c.before.before.put_difference-at1.new.0 (word_at c.before.before.before.before.before.before
+    c.before.before.before.before.before.before.args.k) c.before.before.put_difference-at1.result
 state-1 c =
     let s = c.before.before.before.before.before.before in
-    upto-one s.requires (state-0 s) s.args.k (omega arith) (omega arith) c.before.before.put-difference.ensures
+    upto-one s.requires (state-0 s) s.args.k (omega arith) (omega arith) c.before.before.put_difference-at1.ensures
 
-state-2 : (c : tie.After-slice-known3)
+state-2 : (c : tie.After-slice_known-3-1)
     → State c.before.before.before.before.before.before.before.before.before.before.before 2
-    c.before.before.put-difference2.new.0
+    c.before.before.put_difference-at2.new.0
     (word_at c.before.before.before.before.before.before.before.before.before.before.before
     (c.before.before.before.before.before.before.before.before.before.before.before.args.k + 1))
-    c.before.before.put-difference2.result
+    c.before.before.put_difference-at2.result
 state-2 c =
     let s = c.before.before.before.before.before.before.before.before.before.before.before in
     upto-one s.requires (state-1 c.before.before.before.before.before) (s.args.k + 1) (omega arith)
-    (omega arith) c.before.before.put-difference2.ensures
+    (omega arith) c.before.before.put_difference-at2.ensures
 
-state-3 : (c : tie.After-slice-known4)
-    → State c.before.before.before.before.before.before.before.before.before.before.before.before.before.before.before.before 3 c.before.before.put-difference3.new.0
+state-3 : (c : tie.After-slice_known-4-1)
+    → State c.before.before.before.before.before.before.before.before.before.before.before.before.before.before.before.before 3 c.before.before.put_difference-at3.new.0
     (word_at c.before.before.before.before.before.before.before.before.before.before.before.before.before.before.before.before
-    (c.before.before.before.before.before.before.before.before.before.before.before.before.before.before.before.before.args.k + 2)) c.before.before.put-difference3.result
+    (c.before.before.before.before.before.before.before.before.before.before.before.before.before.before.before.before.args.k + 2)) c.before.before.put_difference-at3.result
 state-3 c =
     let s = c.before.before.before.before.before.before.before.before.before.before.before.before.before.before.before.before in
     upto-one s.requires (state-2 c.before.before.before.before.before) (s.args.k + 2) (omega arith)
-    (omega arith) c.before.before.put-difference3.ensures
+    (omega arith) c.before.before.put_difference-at3.ensures
 
-state-4 : (c : tie.After-slice-known5)
-    → State c.before.before.before.before.before.before.before.before.before.before.before.before.before.before.before.before.before.before.before.before.before 4 c.before.before.put-difference4.new.0
+state-4 : (c : tie.After-slice_known-5-1)
+    → State c.before.before.before.before.before.before.before.before.before.before.before.before.before.before.before.before.before.before.before.before.before 4 c.before.before.put_difference.new.0
     (word_at c.before.before.before.before.before.before.before.before.before.before.before.before.before.before.before.before.before.before.before.before.before
     (c.before.before.before.before.before.before.before.before.before.before.before.before.before.before.before.before.before.before.before.before.before.args.k + 3))
-    c.before.before.put-difference4.result
+    c.before.before.put_difference.result
 state-4 c =
     let s = c.before.before.before.before.before.before.before.before.before.before.before.before.before.before.before.before.before.before.before.before.before in
-    upto-one s.pre (state-3 c.before.before.before.before.before) (s.args.k + 3) (omega arith)
-    (omega arith) c.before.before.put-difference4.ensures
+    upto-one s.requires (state-3 c.before.before.before.before.before) (s.args.k + 3) (omega arith)
+    (omega arith) c.before.before.put_difference.ensures
 
-sub-put-difference : tie.Need-overflow-sub-put-difference
+sub-put-difference : tie.Need-overflow_sub-z1
 sub-put-difference c =
     let s = c.before.before.before in
     gap-fits (of_z w64 s.args.last) (room s (state-0 s) s.args.k (omega arith) (omega arith))
 
-put-difference-requires : tie.Need-put-difference-requires
+put-difference-requires : tie.Need-put_difference-at1-requires
 put-difference-requires c κs =
     let s = c.before.before.before in
     gap-room (of_z w64 s.args.last) (room s (state-0 s) s.args.k (omega arith) (omega arith))
 
-sub-put-difference-2 : tie.Need-overflow-sub-put-difference-2
+sub-put-difference-2 : tie.Need-overflow_sub-z2
 sub-put-difference-2 c =
     let s = c.before.before.before.before.before.before.before.before in
     gap-fits (word_at s s.args.k) (room s (state-1 c.before.before) (s.args.k + 1) (omega arith) (omega arith))
 
-put-difference-requires-2 : tie.Need-put-difference-requires-2
+put-difference-requires-2 : tie.Need-put_difference-at2-requires
 put-difference-requires-2 c κs =
     let s = c.before.before.before.before.before.before.before.before in
     gap-room (word_at s s.args.k) (room s (state-1 c.before.before) (s.args.k + 1) (omega arith) (omega arith))
 
-sub-put-difference-3 : tie.Need-overflow-sub-put-difference-3
+sub-put-difference-3 : tie.Need-overflow_sub-z3
 sub-put-difference-3 c =
     let s = c.before.before.before.before.before.before.before.before.before.before.before.before.before in
     gap-fits (word_at s (s.args.k + 1)) (room s (state-2 c.before.before) (s.args.k + 2) (omega arith) (omega arith))
 
-put-difference-requires-3 : tie.Need-put-difference-requires-3
+put-difference-requires-3 : tie.Need-put_difference-at3-requires
 put-difference-requires-3 c κs =
     let s = c.before.before.before.before.before.before.before.before.before.before.before.before.before in
     gap-room (word_at s (s.args.k + 1)) (room s (state-2 c.before.before) (s.args.k + 2) (omega arith) (omega arith))
 
-sub-put-difference-4 : tie.Need-overflow-sub-put-difference-4
+sub-put-difference-4 : tie.Need-overflow_sub-pixels
 sub-put-difference-4 c =
     let s = c.before.before.before.before.before.before.before.before.before.before.before.before.before.before.before.before.before.before in
     gap-fits (word_at s (s.args.k + 2)) (room s (state-3 c.before.before) (s.args.k + 3) (omega arith) (omega arith))
 
-put-difference-requires-4 : tie.Need-put-difference-requires-4
+put-difference-requires-4 : tie.Need-put_difference-requires
 put-difference-requires-4 c κs =
     let s = c.before.before.before.before.before.before.before.before.before.before.before.before.before.before.before.before.before.before in
     gap-room (word_at s (s.args.k + 2)) (room s (state-3 c.before.before) (s.args.k + 3) (omega arith) (omega arith))
@@ -107,8 +107,8 @@ put-difference-requires-4 c κs =
 returns : tie.Need-returns
 returns c = (state-4 c).wrote
 
-pub write-four-spec : {M : Type 1} → statement M
-write-four-spec =
+pub write_four_spec : {M : Type 1} → statement M
+write_four_spec =
     tie.close
     (tie.spec
     (λ c. search rules) (λ c. search rules) sub-put-difference put-difference-requires (λ c. search rules)

@@ -15,77 +15,77 @@ use Rattle.cbf_pack.proofs.DenseLaws.{over_none, over-as}
 use Rattle.cbf_pack.proofs.write.write_octets.Statement.{statement}
 use Rattle.cbf_pack.proofs.write.write_octets.Tie as tie
 
-abbrev invariant-loop : tie.invariant-loop
+abbrev invariant-loop : tie.invariant-loop-k
 invariant-loop pixels out₀ start table last₀ at₀ used₀ k₀ out last at used k = Along pixels 0 (length pixels) (pos 0) out₀ start k out last at
     (length pixels - k) × (table ≡ forms)
 
-abbrev decreases-loop : tie.decreases-loop
+abbrev decreases-loop : tie.decreases-loop-k
 decreases-loop pixels out₀ start table last₀ at₀ used₀ k₀ out last at used k = length pixels - k
 
-loop-holds : tie.Need-loop-init invariant-loop decreases-loop
+loop-holds : tie.Need-loop-k-init invariant-loop decreases-loop
 loop-holds c = (along-none refl refl, refl)
 
 writable : (s : tie.Start invariant-loop decreases-loop) → Writable s.args.pixels.now 0 (length s.args.pixels.now) (pos 0) s.args.out.now s.args.start
 writable s = all-writable s.args.pixels.now s.args.out.now s.args.start s.requires.0 s.requires.1
 
-part-requires : tie.Need-part-requires invariant-loop decreases-loop
+part-requires : tie.Need-part-n-requires invariant-loop decreases-loop
 part-requires c κs = tt
 
-write-part-requires : tie.Need-write-part-requires invariant-loop decreases-loop
+write-part-requires : tie.Need-write_part-next-requires invariant-loop decreases-loop
 write-part-requires c κs =
-    let l = c.before.before.before.before.before.before.loop in
+    let l = c.before.before.before.before.before.before.loop-k in
     let s = c.before.before.before.before.before.before.before.before in
-    let p = c.before.before.part in (
+    let p = c.before.before.part-n in (
       l.invariant.1,
       p.ensures.1,
       omega (arith, p.ensures.0),
       along-writable (writable s) l.invariant.0 (length s.args.pixels.now - l.k) l.k (omega arith) (omega arith),
     )
 
-sub_used : tie.Need-overflow-sub-used invariant-loop decreases-loop
-sub_used c = omega (arith, c.before.before.write-part.ensures.wrote.after)
+sub_used : tie.Need-overflow_sub-used invariant-loop decreases-loop
+sub_used c = omega (arith, c.before.before.write_part-next.ensures.wrote.after)
 
 -- a run that window_run found
-run : (c : tie.After-window-run invariant-loop decreases-loop) → InWindow c.before.before.before.before.args.pixels.now
-    c.before.before.loop.k (to_z w64 c.before.before.loop.last) c.window-run.result
+run : (c : tie.After-window_run-n invariant-loop decreases-loop) → InWindow c.before.before.before.before.args.pixels.now
+    c.before.before.loop-k.k (to_z w64 c.before.before.loop-k.last) c.window_run-n.result
 run c =
-    let l = c.before.before.loop in
+    let l = c.before.before.loop-k in
     let w = along-writable (writable c.before.before.before.before) l.invariant.0 0 l.k (omega arith) (omega arith) in
-    record { small = w.small; before = w.before; run = c.window-run.ensures }
+    record { small = w.small; before = w.before; run = c.window_run-n.ensures }
 
-room : (c : tie.After-window-run invariant-loop decreases-loop) → Writable c.before.before.before.before.args.pixels.now
-    c.before.before.loop.k c.window-run.result (to_z w64 c.before.before.loop.last)
-    c.before.before.loop.out c.before.before.loop.at
+room : (c : tie.After-window_run-n invariant-loop decreases-loop) → Writable c.before.before.before.before.args.pixels.now
+    c.before.before.loop-k.k c.window_run-n.result (to_z w64 c.before.before.loop-k.last)
+    c.before.before.loop-k.out c.before.before.loop-k.at
 room c =
-    let l = c.before.before.loop in
-    along-writable (writable c.before.before.before.before) l.invariant.0 c.window-run.result l.k (omega arith)
-    (omega (arith, c.window-run.ensures.inside))
+    let l = c.before.before.loop-k in
+    along-writable (writable c.before.before.before.before) l.invariant.0 c.window_run-n.result l.k (omega arith)
+    (omega (arith, c.window_run-n.ensures.inside))
 
-write-run-requires : tie.Need-write-run-requires invariant-loop decreases-loop
+write-run-requires : tie.Need-write_run-requires invariant-loop decreases-loop
 write-run-requires c κs =
     let r = run c.before.before in
     (r.small, r.run, r.before, window-room r (room c.before.before))
 
-add_at : tie.Need-overflow-add-at invariant-loop decreases-loop
+add_at : tie.Need-overflow_add-at invariant-loop decreases-loop
 add_at c = omega (
   arith,
   window-room (run c.before.before.before.before.before) (room c.before.before.before.before.before),
   along-same
-      c.before.before.before.before.before.before.before.loop.invariant.0,
+      c.before.before.before.before.before.before.before.loop-k.invariant.0,
 )
 
 -- the part of a turn, where its two ways meet
-joined : (c : tie.Joined1 invariant-loop decreases-loop)
-    → (0 < c.if1.n)
-    × (c.before.before.before.loop.k + c.if1.n ≤ length c.before.before.before.before.before.args.pixels.now)
-    × (length c.before.before.before.loop.invariant.0.behind ≤ c.if1.n)
-    × WroteOver c.before.before.before.before.before.args.pixels.now c.before.before.before.loop.k c.if1.n
-    (to_z w64 c.before.before.before.loop.last) c.before.before.before.loop.out c.before.before.before.loop.at c.if1.out
-    c.if1.at
-    (length c.before.before.before.before.before.args.pixels.now - (c.before.before.before.loop.k + c.if1.n))
+joined : (c : tie.Joined-n-eq0 invariant-loop decreases-loop)
+    → (0 < c.if-n-eq0.n)
+    × (c.before.before.before.loop-k.k + c.if-n-eq0.n ≤ length c.before.before.before.before.before.args.pixels.now)
+    × (length c.before.before.before.loop-k.invariant.0.behind ≤ c.if-n-eq0.n)
+    × WroteOver c.before.before.before.before.before.args.pixels.now c.before.before.before.loop-k.k c.if-n-eq0.n
+    (to_z w64 c.before.before.before.loop-k.last) c.before.before.before.loop-k.out c.before.before.before.loop-k.at c.if-n-eq0.out
+    c.if-n-eq0.at
+    (length c.before.before.before.before.before.args.pixels.now - (c.before.before.before.loop-k.k + c.if-n-eq0.n))
 joined c =
-    let a = c.before.before.before.loop.invariant.0 in
-    let t = c.before.before.loop-test.true in
+    let a = c.before.before.before.loop-k.invariant.0 in
+    let t = c.before.before.loop-k-test.true in
     ⊎_elim
     (λ w.
     let p = w.1.ensures in
@@ -103,43 +103,43 @@ joined c =
       omega (arith, a.seven),
       over-as
           (over_none (window-wrote r w.2.ensures refl) (length c.before.before.before.before.before.args.pixels.now -
-          (c.before.before.before.loop.k + c.if1.n))) e w.5 w.6 (omega arith),
+          (c.before.before.before.loop-k.k + c.if-n-eq0.n))) e w.5 w.6 (omega arith),
     ))
-    c.if1.branch
+    c.if-n-eq0.branch
 
-add-k : tie.Need-overflow-add-k invariant-loop decreases-loop
+add-k : tie.Need-overflow_add-k invariant-loop decreases-loop
 add-k c = omega (arith, (joined c.before).1)
 
-sub-last : tie.Need-overflow-sub-last invariant-loop decreases-loop
+sub-last : tie.Need-overflow_sub-last invariant-loop decreases-loop
 sub-last c = omega (arith, (joined c.before).0)
 
-mul-last : tie.Need-overflow-mul-last invariant-loop decreases-loop
+mul-last : tie.Need-offset_bounds-pixels-k invariant-loop decreases-loop
 mul-last c = omega (arith, (joined c.before).1)
 
-shared-slice-copy-out-last : tie.Need-shared-slice-copy-out-last invariant-loop decreases-loop
+shared-slice-copy-out-last : tie.Need-bounds-pixels-k invariant-loop decreases-loop
 shared-slice-copy-out-last c = omega (arith, (joined c.before).1, (joined c.before).0)
 
-loop-less : tie.Need-loop-smaller invariant-loop decreases-loop
+loop-less : tie.Need-loop-k-smaller invariant-loop decreases-loop
 loop-less c = omega (arith, (joined c.before.before).0)
 
-loop-again : tie.Need-loop-preserved invariant-loop decreases-loop
+loop-again : tie.Need-loop-k-preserved invariant-loop decreases-loop
 loop-again c =
     let s = c.before.before.before.before.before.before.before in
-    let l = c.before.before.before.before.before.loop in
-    let i = c.before.before.if1 in
+    let l = c.before.before.before.before.before.loop-k in
+    let i = c.before.before.if-n-eq0 in
     let j = joined c.before.before in
     let h = j.1 in
     let p = j.0 in
     (along-more (writable s) l.invariant.0 i.n l.k (omega arith) (omega arith) j.2 (l.k + i.n - 1) (omega arith) p j.3, l.invariant.1)
 
-same_length : tie.Need-same-length invariant-loop decreases-loop
-same_length c = along-same c.before.loop.invariant.0
+same_length : tie.Need-shape_of-out invariant-loop decreases-loop
+same_length c = along-same c.before.loop-k.invariant.0
 
 returns : tie.Need-returns invariant-loop decreases-loop
-returns c = let l = c.before.loop in all-wrote (along-end l.invariant.0 (omega arith))
+returns c = let l = c.before.loop-k in all-wrote (along-end l.invariant.0 (omega arith))
 
-pub write-octets-spec : {M : Type 1} → statement M
-write-octets-spec =
+pub write_octets_spec : {M : Type 1} → statement M
+write_octets_spec =
     tie.close
     (tie.spec
     invariant-loop decreases-loop loop-holds (λ c κs. omega arith) (λ c. omega arith) part-requires write-part-requires

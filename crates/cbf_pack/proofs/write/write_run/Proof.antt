@@ -11,14 +11,14 @@ use Rattle.cbf_pack.proofs.WriteLaws.{in-window-word, window-writable, window-wr
 use Rattle.cbf_pack.proofs.write.write_run.Statement.{statement}
 use Rattle.cbf_pack.proofs.write.write_run.Tie as tie
 
-abbrev invariant-loop : tie.invariant-loop
+abbrev invariant-loop : tie.invariant-loop-j
 invariant-loop pixels k n last out₀ at before₀ j₀ out before j =
     Upto pixels k n (to_z w64 last) out₀ at j out before (at + j) × (j % 32 ≡ 0)
 
-abbrev decreases-loop : tie.decreases-loop
+abbrev decreases-loop : tie.decreases-loop-j
 decreases-loop pixels k n last out₀ at before₀ j₀ out before j = n - j
 
-loop-holds : tie.Need-loop-init invariant-loop decreases-loop
+loop-holds : tie.Need-loop-j-init invariant-loop decreases-loop
 loop-holds c = (upto-none refl (omega arith), omega arith)
 
 in_window : (s : tie.Start invariant-loop decreases-loop) → InWindow s.args.pixels.now s.args.k (to_z w64 (of_z w64 s.args.last)) s.args.n
@@ -28,61 +28,61 @@ writable : (s : tie.Start invariant-loop decreases-loop) → Writable s.args.pix
     (to_z w64 (of_z w64 s.args.last)) s.args.out.now s.args.at
 writable s = window-writable (in_window s) s.args.out.now s.args.at s.requires.3
 
-add-write-block : tie.Need-overflow-add-write-block invariant-loop decreases-loop
+add-write-block : tie.Need-overflow_add-k invariant-loop decreases-loop
 add-write-block c = omega (arith, c.before.before.before.requires.1.inside)
 
-add-write-block-2 : tie.Need-overflow-add-write-block-2 invariant-loop decreases-loop
+add-write-block-2 : tie.Need-overflow_add-at invariant-loop decreases-loop
 add-write-block-2 c = omega (arith, c.before.before.before.before.requires.3)
 
-block : (c : tie.After-write-block-arg invariant-loop decreases-loop)
+block : (c : tie.After-write_block-arg-1 invariant-loop decreases-loop)
     → InWindow c.before.before.before.before.args.pixels.now (c.before.before.before.before.args.k +
-    c.before.before.loop.j) (to_z w64 c.before.before.loop.before) 32
+    c.before.before.loop-j.j) (to_z w64 c.before.before.loop-j.before) 32
 block c =
-    upto-window (in_window c.before.before.before.before) c.before.before.loop.invariant.0 32
+    upto-window (in_window c.before.before.before.before) c.before.before.loop-j.invariant.0 32
     (omega (arith, c.before.before.before.before.requires.1.blocks)) (omega arith)
 
-write-block-requires : tie.Need-write-block-requires invariant-loop decreases-loop
+write-block-requires : tie.Need-write_block-requires invariant-loop decreases-loop
 write-block-requires c κs =
     let b = block c in
-    let l = c.before.before.loop in (
+    let l = c.before.before.loop-j in (
       b.small,
       b.run,
       b.before,
       omega (arith, c.before.before.before.before.requires.1.blocks, c.before.before.before.before.requires.3, wrote-length l.invariant.0.wrote),
     )
 
-add-before : tie.Need-overflow-add-before invariant-loop decreases-loop
+add-before : tie.Need-overflow_add-before invariant-loop decreases-loop
 add-before c = omega (arith, c.before.before.before.before.before.before.before.requires.1.inside)
 
-add-before-2 : tie.Need-overflow-add-before-2 invariant-loop decreases-loop
+add-before-2 : tie.Need-overflow_add-before-in-loop-j invariant-loop decreases-loop
 add-before-2 c = omega (arith, (block c.before.before.before).run.inside)
 
-mul-before : tie.Need-overflow-mul-before invariant-loop decreases-loop
+mul-before : tie.Need-offset_bounds-pixels-k invariant-loop decreases-loop
 mul-before c = omega (arith, (block c.before.before.before).run.inside)
 
-shared-slice-copy-out-before : tie.Need-shared-slice-copy-out-before invariant-loop decreases-loop
+shared-slice-copy-out-before : tie.Need-bounds-pixels-k invariant-loop decreases-loop
 shared-slice-copy-out-before c = omega (arith, (block c.before.before.before).run.inside)
 
-add-j : tie.Need-overflow-add-j invariant-loop decreases-loop
+add-j : tie.Need-overflow_add-j invariant-loop decreases-loop
 add-j c = omega (arith, (block c.before.before.before.before).run.inside)
 
-loop-again : tie.Need-loop-preserved invariant-loop decreases-loop
+loop-again : tie.Need-loop-j-preserved invariant-loop decreases-loop
 loop-again c =
     let s = c.before.before.before.before.before.before.before.before in
-    let l = c.before.before.before.before.before.before.loop in (
+    let l = c.before.before.before.before.before.before.loop-j in (
       upto-more (writable s) l.invariant.0 32 _ refl (omega (arith, s.requires.1.blocks)) (s.args.k + l.j + 31) (omega arith) (omega arith)
-          (window-wrote (block c.before.before.before.before) c.before.before.before.write-block.ensures (omega arith)),
+          (window-wrote (block c.before.before.before.before) c.before.before.before.write_block.ensures (omega arith)),
       omega arith,
     )
 
-same_length : tie.Need-same-length invariant-loop decreases-loop
-same_length c = wrote-length c.before.loop.invariant.0.wrote
+same_length : tie.Need-shape_of-out invariant-loop decreases-loop
+same_length c = wrote-length c.before.loop-j.invariant.0.wrote
 
 returns : tie.Need-returns invariant-loop decreases-loop
-returns c = (upto_all c.before.loop.invariant.0 c.before.before.before.requires.2 (omega arith)).octets
+returns c = (upto_all c.before.loop-j.invariant.0 c.before.before.before.requires.2 (omega arith)).octets
 
-pub write-run-spec : {M : Type 1} → statement M
-write-run-spec =
+pub write_run_spec : {M : Type 1} → statement M
+write_run_spec =
     tie.close
     (tie.spec
     invariant-loop decreases-loop loop-holds add-write-block add-write-block-2 write-block-requires add-before add-before-2

@@ -6,20 +6,20 @@ use Rattle.cbf_reader.proofs.DataLaws.{by-text}
 use Rattle.cbf_reader.proofs.data.data_for.Statement.{statement}
 use Rattle.cbf_reader.proofs.data.data_for.Tie as tie
 
-returns : tie.Need-returns
+returns : tie.Need-returns-then-is_text
 returns c =
     let a = c.before.before.before.before.args in
-    by-text a.limit a.size a.at (drop a.at a.file.now) a.encoding (sym c.before.if1.true
-    ∙ c.before.before.is-text.ensures) c.base64-data.ensures
+    by-text a.limit a.size a.at (drop a.at a.file.now) a.encoding (sym c.before.if-is_text.true
+    ∙ c.before.before.is_text.ensures) c.base64_data.ensures
 
-returns-2 : tie.Need-returns-2
+returns-2 : tie.Need-returns
 returns-2 c =
     let a = c.before.before.before.before.args in
-    by-text a.limit a.size a.at (drop a.at a.file.now) a.encoding (sym c.before.if1.false
-    ∙ c.before.before.is-text.ensures) c.binary-data.ensures
+    by-text a.limit a.size a.at (drop a.at a.file.now) a.encoding (sym c.before.if-is_text.false
+    ∙ c.before.before.is_text.ensures) c.binary_data.ensures
 
-pub data-for-spec : {M : Type 1} → statement M
-data-for-spec =
+pub data_for_spec : {M : Type 1} → statement M
+data_for_spec =
     tie.close
     (tie.spec
     (λ c κs. search rules) (λ c κs. search rules) returns (λ c κs. search rules) returns-2)

@@ -3,8 +3,8 @@ use borrow.Author.Rules.{rules}
 use Rattle.cbf_reader.proofs.data.is_text.Statement.{statement}
 use Rattle.cbf_reader.proofs.data.is_text.Tie as tie
 
-pub is-text-spec : {M : Type 1} → statement M
-is-text-spec =
+pub is_text_spec : {M : Type 1} → statement M
+is_text_spec =
     tie.close
     (tie.spec
     (λ c. search rules) (λ c. search rules) (λ c. search rules) (λ c. search rules))

@@ -8,21 +8,22 @@ use borrow.Author.Rules.{rules}
 use Rattle.cbf_reader.proofs.step.is_boundary.Statement.{statement}
 use Rattle.cbf_reader.proofs.step.is_boundary.Tie as tie
 
-returns : tie.Need-returns
+returns : tie.Need-returns-in-Opened
 returns c f e =
     let a = c.before.before.before.before.before.before.args in
-    let v = c.before.before.before.field.given in
+    let v = c.before.before.before.field-1.given in
     let s = same (slice a.at a.to a.file.now) opening in
-    c.is_IsWord.ensures ∙ ap (λ (b : Bool). b && s) (is_opened a.at v.0.0 f (sym v.1 ∙ e))
+    c.is_word.ensures ∙ ap (λ (b : Bool). b && s) (is_opened a.at v.0.0 f (sym v.1 ∙ e))
 
-returns-2 : tie.Need-returns-2
+returns-2 : tie.Need-returns-in_default
 returns-2 c f e =
     let a = c.before.before.args in
     let s = same (slice a.at a.to a.file.now) opening in
-    ap (λ (b : Bool). b && s) (not_opened a.at a.field c.match.keys2 f e)
+    ap (λ (b : Bool). b && s) (not_opened a.at a.field c.in_default.keys2 f e)
 
-pub is-boundary-spec : {M : Type 1} → statement M
-is-boundary-spec =
+pub is_boundary_spec : {M : Type 1} → statement M
+is_boundary_spec =
     tie.close
     (tie.spec
-    (λ c. search rules) (λ c. search rules) (λ c κs. search rules) returns returns-2)
+
+    (λ c. search rules) (λ c κs. search rules) returns returns-2)

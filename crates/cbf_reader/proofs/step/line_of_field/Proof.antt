@@ -5,18 +5,18 @@ use borrow.Author.Rules.{rules}
 use Rattle.cbf_reader.proofs.step.line_of_field.Statement.{statement}
 use Rattle.cbf_reader.proofs.step.line_of_field.Tie as tie
 
-returns : tie.Need-returns
+returns : tie.Need-returns-in-First
 returns c f b e =
     let a = c.before.before.before.before.args in
-    c.first_line.ensures ∙ line_first a.at a.limit a.file.now f b (sym c.before.enum_told.given.1 ∙ e)
+    c.first_line.ensures ∙ line_first a.at a.limit a.file.now f b (sym c.before.enum_told-1.given.1 ∙ e)
 
-returns-2 : tie.Need-returns-2
+returns-2 : tie.Need-returns-in_default
 returns-2 c f b e =
     let a = c.before.before.before.args in
-    c.text-line.ensures ∙ line_other a.at a.limit (drop a.at a.file.now) a.field c.before.match.keys2 f e
+    c.text_line.ensures ∙ line_other a.at a.limit (drop a.at a.file.now) a.field c.before.in_default.keys2 f e
 
-pub line-of-field-spec : {M : Type 1} → statement M
-line-of-field-spec =
+pub line_of_field_spec : {M : Type 1} → statement M
+line_of_field_spec =
     tie.close
     (tie.spec
     (λ c. search rules) (λ c κs. search rules) (λ c κs. search rules) returns returns-2)

@@ -11,17 +11,17 @@ returns c st n e k =
     let a = c.before.before.before.before.args in
     let pre = c.before.before.before.before.requires in
     let file = a.file.now in
-    let b : BlockAfter file a.c.at a.to a.c.field a.c.block c.before.match.block
+    let b : BlockAfter file a.c.at a.to a.c.field a.c.block c.before.match-field.block
     = ⊎_elim
     (λ h. subst (λ (r : Range). BlockAfter file a.c.at a.to a.c.field a.c.block r) (sym h.3)
     (block-outside file a.c.at a.to a.c.block a.c.field h.1.given.1 h.2.result h.2.ensures))
     (λ h. subst (λ (r : Range). BlockAfter file a.c.at a.to a.c.field a.c.block r) (sym h.1)
     (block-kept file a.c.at a.to a.c.block a.c.field h.0.keys2 pre.2 pre.3))
-    c.before.match.branch in
-    (after_line_lem file a.c a.to a.next c.before.match.block c.next_field.result b c.next_field.ensures st n e k, refl, b.low, b.high)
+    c.before.match-field.branch in
+    (after_line_lem file a.c a.to a.next c.before.match-field.block c.next_field.result b c.next_field.ensures st n e k, refl, b.low, b.high)
 
-pub line-step-spec : {M : Type 1} → statement M
-line-step-spec =
+pub line_step_spec : {M : Type 1} → statement M
+line_step_spec =
     tie.close
     (tie.spec
     (λ c. search rules) (λ c κs. search rules) (λ c κs. search rules) returns)

@@ -6,26 +6,26 @@ use borrow.Author.Rules.{rules}
 use Rattle.cbf_reader.proofs.step.next_block.Statement.{statement}
 use Rattle.cbf_reader.proofs.step.next_block.Tie as tie
 
-returns : tie.Need-returns
+returns : tie.Need-returns-then-to-at-lt5
 returns c =
     let a = c.before.before.args in
     block-short a.file.now a.at a.to (omega arith) (omega arith) a.block (omega arith) (omega arith) (omega arith)
 
-returns-2 : tie.Need-returns-2
+returns-2 : tie.Need-returns-then-not-is_word_in_any_case
 returns-2 c =
     let a = c.before.before.before.before.before.args in
     block-other a.file.now a.at a.to (omega arith) (omega arith) a.block (omega arith)
-    (sym (not-true _ c.if2.true) ∙ c.before.is-word-in-any-case.ensures) (omega arith) (omega arith)
+    (sym (not-true _ c.if-not-is_word_in_any_case.true) ∙ c.before.is_word_in_any_case.ensures) (omega arith) (omega arith)
 
-returns-3 : tie.Need-returns-3
+returns-3 : tie.Need-returns
 returns-3 c =
     let a = c.before.before.before.before.before.before.args in
     block-named a.file.now a.at a.to (omega arith) (omega arith) a.block (omega arith)
-    (sym (not-false _ c.before.if2.false) ∙ c.before.before.is-word-in-any-case.ensures) c.up-to-blank.result c.up-to-blank.ensures
+    (sym (not-false _ c.before.if-not-is_word_in_any_case.false) ∙ c.before.before.is_word_in_any_case.ensures) c.up_to_blank.result c.up_to_blank.ensures
 
-pub next-block-spec : {M : Type 1} → statement M
-next-block-spec =
+pub next_block_spec : {M : Type 1} → statement M
+next_block_spec =
     tie.close
     (tie.spec
-    (λ c. search rules) returns (λ c. search rules) (λ c. search rules) (λ c κs. search rules) returns-2
-    (λ c κs. search rules) returns-3)
+
+    (λ c. search rules) returns (λ c. search rules) (λ c κs. search rules) returns-2 (λ c κs. search rules) returns-3)

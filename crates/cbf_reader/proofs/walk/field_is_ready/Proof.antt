@@ -5,20 +5,20 @@ use borrow.Author.Tests.{eqb-true, eq-eqb, leb-true, le-leb}
 use Rattle.cbf_reader.proofs.walk.field_is_ready.Statement.{statement}
 use Rattle.cbf_reader.proofs.walk.field_is_ready.Tie as tie
 
-returns : tie.Need-returns
-returns c = rw c.enum_told.given.1 (eqb-true _ _, eq-eqb _ _)
+returns : tie.Need-returns-in-First
+returns c = rw c.enum_told-1.given.1 (eqb-true _ _, eq-eqb _ _)
 
-returns-2 : tie.Need-returns-2
-returns-2 c = rw c.enum-told2.given.1 (λ e. omega arith, λ e. refl)
+returns-2 : tie.Need-returns-in-Outside
+returns-2 c = rw c.enum_told-in-Outside-1.given.1 (λ e. omega arith, λ e. refl)
 
-returns-3 : tie.Need-returns-3
-returns-3 c = rw c.before.field.given.1 (leb-true _ _, le-leb _ _)
+returns-3 : tie.Need-returns-in-Opened
+returns-3 c = rw c.before.field-1.given.1 (leb-true _ _, le-leb _ _)
 
-returns-4 : tie.Need-returns-4
-returns-4 c = rw c.before.field2.given.1 (leb-true _ _, le-leb _ _)
+returns-4 : tie.Need-returns-in-Inside
+returns-4 c = rw c.before.field-in-Inside-1.given.1 (leb-true _ _, le-leb _ _)
 
-pub field-is-ready-spec : {M : Type 1} → statement M
-field-is-ready-spec =
+pub field_is_ready_spec : {M : Type 1} → statement M
+field_is_ready_spec =
     tie.close
     (tie.spec
     (λ c. search rules) (λ c. search rules) (λ c. search rules) (λ c. search rules) returns returns-2

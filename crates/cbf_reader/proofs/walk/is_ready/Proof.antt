@@ -5,39 +5,39 @@ use Rattle.cbf_reader.proofs.WalkLaws.{field_back, back_field}
 use Rattle.cbf_reader.proofs.walk.is_ready.Statement.{statement}
 use Rattle.cbf_reader.proofs.walk.is_ready.Tie as tie
 
-returns : tie.Need-returns
-returns c = (never, λ ready. absurd (omega (arith, ready.short, c.if1.true)))
+returns : tie.Need-returns-then-file-gt-FILE_LIMIT
+returns c = (never, λ ready. absurd (omega (arith, ready.short, c.if-file-gt-FILE_LIMIT.true)))
 
-returns-2 : tie.Need-returns-2
-returns-2 c = (never, λ ready. absurd (omega (arith, ready.at_in, c.if2.true)))
+returns-2 : tie.Need-returns-then-file-c
+returns-2 c = (never, λ ready. absurd (omega (arith, ready.at_in, c.if-file-c.true)))
 
-returns-3 : tie.Need-returns-3
-returns-3 c = (never, λ ready. absurd (omega (arith, ready.few, c.if3.true)))
+returns-3 : tie.Need-returns-then-c-gt512
+returns-3 c = (never, λ ready. absurd (omega (arith, ready.few, c.if-c-gt512.true)))
 
-returns-4 : tie.Need-returns-4
-returns-4 c = (never, λ ready. absurd (omega (arith, ready.block_low, c.if4.true)))
+returns-4 : tie.Need-returns-then-block
+returns-4 c = (never, λ ready. absurd (omega (arith, ready.block_low, c.if-block.true)))
 
-returns-5 : tie.Need-returns-5
-returns-5 c = (never, λ ready. absurd (omega (arith, ready.block_high, c.if5.true)))
+returns-5 : tie.Need-returns-then-file-block
+returns-5 c = (never, λ ready. absurd (omega (arith, ready.block_high, c.if-file-block.true)))
 
-returns-6 : tie.Need-returns-6
+returns-6 : tie.Need-returns
 returns-6 c =
     let a = c.before.before.before.before.before.before.before.before.before.before.before.before.args in
     let field = a.c.field in
     let at = a.c.at in (
       λ e. record {
-        short = omega (arith, c.before.before.before.before.before.before.before.before.before.if1.false);
-        at_in = omega (arith, c.before.before.before.before.before.before.before.if2.false);
-        few = omega (arith, c.before.before.before.before.before.if3.false);
-        block_low = omega (arith, c.before.before.before.if4.false);
-        block_high = omega (arith, c.before.if5.false);
-        stands = field_back field at (c.field-is-ready.ensures.0 e);
+        short = omega (arith, c.before.before.before.before.before.before.before.before.before.if-file-gt-FILE_LIMIT.false);
+        at_in = omega (arith, c.before.before.before.before.before.before.before.if-file-c.false);
+        few = omega (arith, c.before.before.before.before.before.if-c-gt512.false);
+        block_low = omega (arith, c.before.before.before.if-block.false);
+        block_high = omega (arith, c.before.if-file-block.false);
+        stands = field_back field at (c.field_is_ready.ensures.0 e);
       },
-      λ ready. c.field-is-ready.ensures.1 (back_field field at ready.stands.0 ready.stands.1.0 ready.stands.1.1),
+      λ ready. c.field_is_ready.ensures.1 (back_field field at ready.stands.0 ready.stands.1.0 ready.stands.1.1),
     )
 
-pub is-ready-spec : {M : Type 1} → statement M
-is-ready-spec =
+pub is_ready_spec : {M : Type 1} → statement M
+is_ready_spec =
     tie.close
     (tie.spec
     returns returns-2 returns-3 returns-4 returns-5 (λ c κs. search rules) returns-6)

@@ -4,20 +4,20 @@ use Rattle.cbf_reader.proofs.whole_file.count_sections.Statement.{statement}
 use Rattle.cbf_format.specs.Files as F
 use Rattle.cbf_reader.proofs.whole_file.count_sections.Tie as tie
 
-returns : tie.Need-returns
+returns : tie.Need-returns-in-Refused
 returns c =
     let a = c.before.before.before.before.before.args in
     whole_file-count a.limit a.file.now 0 (F.read a.limit a.file.now)
-    c.before.s.given.1 c.before.before.before.read-file.ensures
+    c.before.s-1.given.1 c.before.before.before.read_file-s.ensures
 
-returns-2 : tie.Need-returns-2
+returns-2 : tie.Need-returns-in-Accepted
 returns-2 c =
     let a = c.before.before.before.before.before.args in
     whole_file-count a.limit a.file.now 0 (F.read a.limit a.file.now)
-    c.before.s2.given.1 c.before.before.before.read-file.ensures
+    c.before.s-in-Accepted-1.given.1 c.before.before.before.read_file-s.ensures
 
-pub count-sections-spec : {M : Type 1} → statement M
-count-sections-spec =
+pub count_sections_spec : {M : Type 1} → statement M
+count_sections_spec =
     tie.close
     (tie.spec
     (λ c κs. search rules) (λ c. search rules) (λ c. search rules) returns returns-2)

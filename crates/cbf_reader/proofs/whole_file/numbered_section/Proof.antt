@@ -4,20 +4,20 @@ use Rattle.cbf_reader.proofs.whole_file.numbered_section.Statement.{statement}
 use Rattle.cbf_format.specs.Files as F
 use Rattle.cbf_reader.proofs.whole_file.numbered_section.Tie as tie
 
-returns : tie.Need-returns
+returns : tie.Need-returns-in-Refused
 returns c =
     let a = c.before.before.before.before.before.args in
     place-numbered a.limit a.file.now a.number (F.read a.limit a.file.now)
-    c.before.place.given.1 c.before.before.before.section-place.ensures
+    c.before.place-1.given.1 c.before.before.before.section_place-place.ensures
 
-returns-2 : tie.Need-returns-2
+returns-2 : tie.Need-returns-in-At
 returns-2 c =
     let a = c.before.before.before.before.before.before.args in
     place-numbered a.limit a.file.now a.number (F.read a.limit a.file.now)
-    c.before.before.place2.given.1 c.before.before.before.before.section-place.ensures
+    c.before.before.place-in-At-1.given.1 c.before.before.before.before.section_place-place.ensures
 
-pub numbered-section-spec : {M : Type 1} → statement M
-numbered-section-spec =
+pub numbered_section_spec : {M : Type 1} → statement M
+numbered_section_spec =
     tie.close
     (tie.spec
     (λ c κs. search rules) (λ c. search rules) (λ c. search rules) returns returns-2)

@@ -7,50 +7,50 @@ use Rattle.cbf_reader.proofs.WholeFileLaws.{surveyed-end, surveyed-here, surveye
 use Rattle.cbf_reader.proofs.whole_file.read_from.Statement.{statement}
 use Rattle.cbf_reader.proofs.whole_file.read_from.Tie as tie
 
-abbrev invariant-loop : tie.invariant-loop
+abbrev invariant-loop : tie.invariant-loop-cursor
 invariant-loop file limit number cursor₀ requested₀ cursor requested = Surveyed limit file number cursor requested
 
-abbrev decreases-loop : tie.decreases-loop
+abbrev decreases-loop : tie.decreases-loop-cursor
 decreases-loop file limit number cursor₀ requested₀ cursor requested = length file - cursor.at
 
-loop-holds : tie.Need-loop-init invariant-loop decreases-loop
+loop-holds : tie.Need-loop-cursor-init invariant-loop decreases-loop
 loop-holds c =
     let a = c.before.args in
     let p = c.before.requires in
     surveyed-start a.limit a.file.now a.number a.c p.0 p.2
 
-returns : tie.Need-returns invariant-loop decreases-loop
-returns c = surveyed-refused c.before.before.before.before.before.before.loop.invariant
-    c.before.before.before.next-section.ensures c.before.next.given.1
+returns : tie.Need-returns-in-Refused invariant-loop decreases-loop
+returns c = surveyed-refused c.before.before.before.before.before.before.loop-cursor.invariant
+    c.before.before.before.next_section-next.ensures c.before.next-1.given.1
 
-returns-2 : tie.Need-returns-2 invariant-loop decreases-loop
-returns-2 c = surveyed-end c.before.before.before.before.before.loop.invariant c.before.before.next-section.ensures c.enum_told.given.1
+returns-2 : tie.Need-returns-in-End invariant-loop decreases-loop
+returns-2 c = surveyed-end c.before.before.before.before.before.loop-cursor.invariant c.before.before.next_section-next.ensures c.enum_told-1.given.1
 
-loop-less : tie.Need-loop-smaller invariant-loop decreases-loop
-loop-less c = loop-onward c.before.before.before.before.before.before.before.before.loop.invariant.here
-    c.before.before.before.before.before.next-section.ensures c.before.before.before.next2.given.1
-    c.before.before.before.before.before.before.if1.true
+loop-less : tie.Need-loop-cursor-smaller-then-d-number invariant-loop decreases-loop
+loop-less c = loop-onward c.before.before.before.before.before.before.before.before.loop-cursor.invariant.here
+    c.before.before.before.before.before.next_section-next.ensures c.before.before.before.next-in-Found-1.given.1
+    c.before.before.before.before.before.before.loop-cursor-test.true
 
-loop-again : tie.Need-loop-preserved invariant-loop decreases-loop
-loop-again c = surveyed-here c.before.before.before.before.before.before.before.before.loop.invariant
-    c.before.before.before.before.before.next-section.ensures c.before.before.before.next2.given.1
-    c.if2.true
+loop-again : tie.Need-loop-cursor-preserved-then-d-number invariant-loop decreases-loop
+loop-again c = surveyed-here c.before.before.before.before.before.before.before.before.loop-cursor.invariant
+    c.before.before.before.before.before.next_section-next.ensures c.before.before.before.next-in-Found-1.given.1
+    c.if-d-number.true
 
-loop-less-2 : tie.Need-loop-smaller-2 invariant-loop decreases-loop
-loop-less-2 c = loop-onward c.before.before.before.before.before.before.before.before.loop.invariant.here
-    c.before.before.before.before.before.next-section.ensures c.before.before.before.next2.given.1
-    c.before.before.before.before.before.before.if1.true
+loop-less-2 : tie.Need-loop-cursor-smaller invariant-loop decreases-loop
+loop-less-2 c = loop-onward c.before.before.before.before.before.before.before.before.loop-cursor.invariant.here
+    c.before.before.before.before.before.next_section-next.ensures c.before.before.before.next-in-Found-1.given.1
+    c.before.before.before.before.before.before.loop-cursor-test.true
 
-loop-again-2 : tie.Need-loop-preserved-2 invariant-loop decreases-loop
-loop-again-2 c = surveyed-other c.before.before.before.before.before.before.before.before.loop.invariant
-    c.before.before.before.before.before.next-section.ensures c.before.before.before.next2.given.1
-    c.if2.false
+loop-again-2 : tie.Need-loop-cursor-preserved invariant-loop decreases-loop
+loop-again-2 c = surveyed-other c.before.before.before.before.before.before.before.before.loop-cursor.invariant
+    c.before.before.before.before.before.next_section-next.ensures c.before.before.before.next-in-Found-1.given.1
+    c.if-d-number.false
 
-returns-3 : tie.Need-returns-3 invariant-loop decreases-loop
-returns-3 c = surveyed-past c.before.before.loop.invariant c.before.before.before.before.requires.1 c.if1.false
+returns-3 : tie.Need-returns invariant-loop decreases-loop
+returns-3 c = surveyed-past c.before.before.loop-cursor.invariant c.before.before.before.before.requires.1 c.loop-cursor-test.false
 
-pub read-from-spec : {M : Type 1} → statement M
-read-from-spec =
+pub read_from_spec : {M : Type 1} → statement M
+read_from_spec =
     tie.close
     (tie.spec
     invariant-loop decreases-loop loop-holds (λ c κs. search rules) (λ c. search rules) returns (λ c. search rules)

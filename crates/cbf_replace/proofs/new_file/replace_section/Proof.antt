@@ -15,45 +15,45 @@ use Rattle.cbf_replace.proofs.new_file.replace_section.Tie as tie
 abbrev new : tie.Start → List ℕ
 new s = let a = s.args in one_replaced a.limit a.file.now a.number (pack_byte_offset a.frame.now)
 
-returns : tie.Need-returns
+returns : tie.Need-returns-then-frame-d
 returns c =
     let s = c.before.before.before.before in
     let a = s.args in
-    let r = wrong-count a.d a.frame.now (new s) a.out.now c.before.if1.true in
+    let r = wrong-count a.d a.frame.now (new s) a.out.now c.before.if-frame-d.true in
     (c.refused.ensures ∙ r.0, r.1)
 
-rewrite-file-requires : tie.Need-rewrite-file-requires
+rewrite-file-requires : tie.Need-rewrite_file-requires
 rewrite-file-requires c κs =
     let z = c.before.before.before.before.before in
     let m = z.before.before in
     let s = m.before.before.before.before in
     let a = s.args in
     one-rewritable s.requires.0 a.frame.now
-    (frame-packed a.d a.frame.now (new s) a.out.now (sym z.size.given.1 ∙ m.octet-count.ensures))
-    (omega (arith, s.requires.1, m.before.if1.false))
+    (frame-packed a.d a.frame.now (new s) a.out.now (sym z.size-1.given.1 ∙ m.octet_count-size.ensures))
+    (omega (arith, s.requires.1, m.before.if-frame-d.false))
 
-returns-2 : tie.Need-returns-2
+returns-2 : tie.Need-returns-in-Outside
 returns-2 c =
     let m = c.before.before.before in
     let s = m.before.before.before.before in
     let a = s.args in
-    let r = pixel-outside a.d a.frame.now (new s) a.out.now m.before.if1.false
-    (sym c.before.enum_told.given.1 ∙ m.octet-count.ensures) in
-    (c.refused2.ensures ∙ r.0, r.1)
+    let r = pixel-outside a.d a.frame.now (new s) a.out.now m.before.if-frame-d.false
+    (sym c.before.enum_told-1.given.1 ∙ m.octet_count-size.ensures) in
+    (c.refused-in-Outside.ensures ∙ r.0, r.1)
 
-returns-3 : tie.Need-returns-3
+returns-3 : tie.Need-returns-in-Octets
 returns-3 c =
     let f = c.before.before in
     let z = f.before.before.before.before.before.before in
     let m = z.before.before in
     let s = m.before.before.before.before in
     let a = s.args in
-    frame-fits a.d a.frame.now (new s) a.out.now m.before.if1.false
-    (sym z.size.given.1 ∙ m.octet-count.ensures)
-    (one-rewritten s.requires.0 a.frame.now) f.rewrite-file.ensures
+    frame-fits a.d a.frame.now (new s) a.out.now m.before.if-frame-d.false
+    (sym z.size-1.given.1 ∙ m.octet_count-size.ensures)
+    (one-rewritten s.requires.0 a.frame.now) f.rewrite_file.ensures
 
-pub replace-section-spec : {M : Type 1} → statement M
-replace-section-spec =
+pub replace_section_spec : {M : Type 1} → statement M
+replace_section_spec =
     tie.close
     (tie.spec
     (λ c κs. search rules) returns (λ c κs. search rules) (λ c. search rules) (λ c κs. search rules)

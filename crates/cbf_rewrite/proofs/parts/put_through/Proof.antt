@@ -26,17 +26,17 @@ copied s =
     let p = s.requires.0 in
     sym (slice-part a.file.now a.from a.s.from p.ahead (omega (arith, p.span.low, p.span.inside)))
 
-after-copy : (m : tie.After-copy)
+after-copy : (m : tie.After-copy-boundary)
     → let s = m.before.before.before.before.before in
-    Put s.args.out.now s.args.at (before s) m.copy.result m.copy.new.0
-after-copy m = rw (copied m.before.before.before.before.before) at m.copy.ensures
+    Put s.args.out.now s.args.at (before s) m.copy-boundary.result m.copy-boundary.new.0
+after-copy m = rw (copied m.before.before.before.before.before) at m.copy-boundary.ensures
 
-copy-requires : tie.Need-copy-requires
+copy-requires : tie.Need-copy-boundary-requires
 copy-requires c κs =
     let s = c.before.before.before.before in
     rw (copied s) (omega (arith, s.requires.1, length-append (before s) (span s)))
 
-put-span-requires : tie.Need-put-span-requires
+put-span-requires : tie.Need-put_span-requires
 put-span-requires c κs =
     let m = c.before.before.before in
     let s = m.before.before.before.before.before in
@@ -58,10 +58,10 @@ returns c =
     let u = c.before.before in
     let m = u.before.before.before.before in
     let s = m.before.before.before.before.before in
-    put_both s.args.out.now s.args.at (before s) (span s) (after-copy m) u.put-span.ensures
+    put_both s.args.out.now s.args.at (before s) (span s) (after-copy m) u.put_span.ensures
 
-pub put-through-spec : {M : Type 1} → statement M
-put-through-spec =
+pub put_through_spec : {M : Type 1} → statement M
+put_through_spec =
     tie.close
     (tie.spec
     (λ c. search rules) (λ c. search rules) (λ c. search rules) copy-requires put-span-requires (λ c. search rules)

@@ -11,44 +11,44 @@ use Rattle.cbf_rewrite.proofs.RewriteLaws.{file-long, file-no-room, file-done}
 use Rattle.cbf_rewrite.proofs.rewrite.rewrite_file.Statement.{statement}
 use Rattle.cbf_rewrite.proofs.rewrite.rewrite_file.Tie as tie
 
-abbrev start : tie.After-spans-from → tie.Start
+abbrev start : tie.After-spans_from-length → tie.Start
 start m = m.before.before.before.before.before.before.before
 
-abbrev new : tie.After-spans-from → List ℕ
+abbrev new : tie.After-spans_from-length → List ℕ
 new m = let a = (start m).args in rewritten a.limit a.file.now a.numbers.now a.ends.now a.frames.now
 
-abbrev old : tie.After-spans-from → List ℕ
+abbrev old : tie.After-spans_from-length → List ℕ
 old m = (start m).args.out.now
 
-spans-from-requires : tie.Need-spans-from-requires
+spans-from-requires : tie.Need-spans_from-length-requires
 spans-from-requires c κs =
     (c.before.before.before.before.before.before.requires, λ e. let z : ◌≡◌ {A = ℕ} 0 1 = cc in absurd (omega arith))
 
-returns : tie.Need-returns
+returns : tie.Need-returns-then-length-gt-FILE_LIMIT
 returns c =
     let m = c.before.before.before.before in
-    let r = file-long (new m) (old m) m.spans-from.ensures.0 c.before.if1.true in
-    (c.refused.ensures ∙ r.0, m.spans-from.ensures.1 ∙ r.1)
+    let r = file-long (new m) (old m) m.spans_from-length.ensures.0 c.before.if-length-gt-FILE_LIMIT.true in
+    (c.refused.ensures ∙ r.0, m.spans_from-length.ensures.1 ∙ r.1)
 
-returns-2 : tie.Need-returns-2
+returns-2 : tie.Need-returns-then-out-length
 returns-2 c =
     let m = c.before.before.before.before.before in
-    let e = m.spans-from.ensures in
-    let r = file-no-room (new m) (old m) e.0 c.before.before.if1.false
-    (omega (arith, c.before.if2.true, ap length e.1)) in
-    (c.refused2.ensures ∙ r.0, e.1 ∙ r.1)
+    let e = m.spans_from-length.ensures in
+    let r = file-no-room (new m) (old m) e.0 c.before.before.if-length-gt-FILE_LIMIT.false
+    (omega (arith, c.before.if-out-length.true, ap length e.1)) in
+    (c.refused-then-out-length.ensures ∙ r.0, e.1 ∙ r.1)
 
-returns-3 : tie.Need-returns-3
+returns-3 : tie.Need-returns
 returns-3 c =
     let u = c.before.before in
     let m = u.before.before.before.before.before.before in
-    let e = m.spans-from.ensures in
-    let d = file-done (new m) (old m) e.0 u.before.before.before.if1.false
-    (omega (arith, u.before.before.if2.false, ap length e.1)) in
-    (d.0, u.spans-from2.ensures.1 ∙ ap (λ (o : List ℕ). sets o 0 (new m)) e.1 ∙ d.1)
+    let e = m.spans_from-length.ensures in
+    let d = file-done (new m) (old m) e.0 u.before.before.before.if-length-gt-FILE_LIMIT.false
+    (omega (arith, u.before.before.if-out-length.false, ap length e.1)) in
+    (d.0, u.spans_from.ensures.1 ∙ ap (λ (o : List ℕ). sets o 0 (new m)) e.1 ∙ d.1)
 
-pub rewrite-file-spec : {M : Type 1} → statement M
-rewrite-file-spec =
+pub rewrite_file_spec : {M : Type 1} → statement M
+rewrite_file_spec =
     tie.close
     (tie.spec
     spans-from-requires (λ c κs. search rules) (λ c. search rules) returns (λ c κs. search rules)

@@ -19,64 +19,64 @@ use Rattle.cbf_rewrite.proofs.rewrite.spans_from.Statement.{statement}
 use Rattle.cbf_format.specs.Files as F
 use Rattle.cbf_rewrite.proofs.rewrite.spans_from.Tie as tie
 
-abbrev invariant-loop : tie.invariant-loop
+abbrev invariant-loop : tie.invariant-loop-k
 invariant-loop file limit numbers ends sizes frames out₀ writing c₀ x₀ k₀ first₀ from₀ at₀ out cursor next k first from at =
     Rewriting limit file numbers ends sizes frames out₀ writing cursor next k first from at out
 
 -- the sections that are ahead
-abbrev decreases-loop : tie.decreases-loop
+abbrev decreases-loop : tie.decreases-loop-k
 decreases-loop file limit numbers ends sizes frames out₀ writing c₀ x₀ k₀ first₀ from₀ at₀ out cursor next k first from at =
     length (sections_of (F.read limit file)) - cursor.count
 
-loop-holds : tie.Need-loop-init invariant-loop decreases-loop
+loop-holds : tie.Need-loop-k-init invariant-loop decreases-loop
 loop-holds c =
     let p = c.before.before.before.before.before.before.before.before.requires in rewriting-start p.0 p.1
 
 -- what a turn knows: where the loop is, and that a chosen section is ahead
 
-abbrev start : tie.At-loop invariant-loop decreases-loop → tie.Start invariant-loop decreases-loop
+abbrev start : tie.At-loop-k invariant-loop decreases-loop → tie.Start invariant-loop decreases-loop
 start l = l.before.before.before.before.before.before.before.before.before
 
-abbrev More : tie.At-loop invariant-loop decreases-loop → Type 0
-More l = l.loop.k < length (start l).args.numbers.now
+abbrev More : tie.At-loop-k invariant-loop decreases-loop → Type 0
+More l = l.loop-k.k < length (start l).args.numbers.now
 
-more : (m : tie.In-loop invariant-loop decreases-loop) → More m.before
-more m = omega (arith, m.loop-test.true)
+more : (m : tie.In-loop-k invariant-loop decreases-loop) → More m.before
+more m = omega (arith, m.loop-k-test.true)
 
 -- the file is accepted, and has the chosen sections
 
-same_length : tie.Need-same-length invariant-loop decreases-loop
-same_length c = rewriting-kept c.before.before.before.before.loop.invariant
+same_length : tie.Need-shape_of-out-in-Refused invariant-loop decreases-loop
+same_length c = rewriting-kept c.before.before.before.before.loop-k.invariant
 
-returns : tie.Need-returns invariant-loop decreases-loop
+returns : tie.Need-returns-in-Refused invariant-loop decreases-loop
 returns c =
     let m = c.before.before.before in
-    absurd (rewriting-refused m.before.loop.invariant (more m) c.before.next.given.1)
+    absurd (rewriting-refused m.before.loop-k.invariant (more m) c.before.next-1.given.1)
 
-same-length-2 : tie.Need-same-length-2 invariant-loop decreases-loop
-same-length-2 c = rewriting-kept c.before.before.before.loop.invariant
+same-length-2 : tie.Need-shape_of-out-in-End invariant-loop decreases-loop
+same-length-2 c = rewriting-kept c.before.before.before.loop-k.invariant
 
-returns-2 : tie.Need-returns-2 invariant-loop decreases-loop
+returns-2 : tie.Need-returns-in-End invariant-loop decreases-loop
 returns-2 c =
     let m = c.before.before in
-    absurd (rewriting-end m.before.loop.invariant (more m) c.enum_told.given.1)
+    absurd (rewriting-end m.before.loop-k.invariant (more m) c.enum_told-1.given.1)
 
-add-if1 : tie.Need-overflow-add-if1 invariant-loop decreases-loop
+add-if1 : tie.Need-overflow_add-cursor invariant-loop decreases-loop
 add-if1 c =
     let m = c.before.before.before.before in
-    record { fits = omega (arith, rewriting-few m.before.loop.invariant (more m)) }
+    record { fits = omega (arith, rewriting-few m.before.loop-k.invariant (more m)) }
 
-shared-slice-read-if1 : tie.Need-shared-slice-read-if1 invariant-loop decreases-loop
+shared-slice-read-if1 : tie.Need-bounds-numbers-k invariant-loop decreases-loop
 shared-slice-read-if1 c = more c.before.before.before.before.before
 
 -- where the section is chosen: there is an end and a size for it, and its frame is one of the frames
 
-module _ (l : tie.At-loop invariant-loop decreases-loop) (ahead : More l) where
+module _ (l : tie.At-loop-k invariant-loop decreases-loop) (ahead : More l) where
   abbrev k : ℕ
-  k = l.loop.k
+  k = l.loop-k.k
 
   abbrev first : ℕ
-  first = l.loop.first
+  first = l.loop-k.first
 
   abbrev frames : List ℤ
   frames = (start l).args.frames.now
@@ -92,91 +92,91 @@ module _ (l : tie.At-loop invariant-loop decreases-loop) (ahead : More l) where
 
   chosen : Chosen
   chosen =
-      let b = rewriting-long l.loop.inv ahead in
-      let h = rewriting-choice l.loop.inv ahead in
+      let b = rewriting-long l.loop-k.invariant ahead in
+      let h = rewriting-choice l.loop-k.invariant ahead in
       record { end_there = b.0; size_there = b.1; low = h.low; high = h.high }
 
   -- the frame, as the code takes it
   frame_is : take (end - first) (drop first frames) ≡ slice first end frames
   frame_is = sym (slice-part frames first end chosen.low chosen.high)
 
-abbrev test : tie.Then1 invariant-loop decreases-loop → tie.In-loop invariant-loop decreases-loop
+abbrev test : tie.Then-cursor-numbers invariant-loop decreases-loop → tie.In-loop-k invariant-loop decreases-loop
 test t = t.before.before.before.before.before.before
 
-here : (t : tie.Then1 invariant-loop decreases-loop) → Chosen (test t).before (more (test t))
+here : (t : tie.Then-cursor-numbers invariant-loop decreases-loop) → Chosen (test t).before (more (test t))
 here t = chosen (test t).before (more (test t))
 
-mul-end : tie.Need-overflow-mul-end invariant-loop decreases-loop
+mul-end : tie.Need-offset_bounds-ends-k invariant-loop decreases-loop
 mul-end c = omega (arith, here c)
 
-shared-slice-read-end : tie.Need-shared-slice-read-end invariant-loop decreases-loop
+shared-slice-read-end : tie.Need-bounds-ends-k invariant-loop decreases-loop
 shared-slice-read-end c = (here c.before).end_there
 
-mul-pass-span : tie.Need-overflow-mul-pass-span invariant-loop decreases-loop
+mul-pass-span : tie.Need-offset_bounds-sizes-k invariant-loop decreases-loop
 mul-pass-span c = omega (arith, here c.before)
 
-shared-slice-read-pass-span : tie.Need-shared-slice-read-pass-span invariant-loop decreases-loop
+shared-slice-read-pass-span : tie.Need-bounds-sizes-k invariant-loop decreases-loop
 shared-slice-read-pass-span c = (here c.before.before).size_there
 
-mul-pass-span-2 : tie.Need-overflow-mul-pass-span-2 invariant-loop decreases-loop
+mul-pass-span-2 : tie.Need-offset_bounds-frames-first invariant-loop decreases-loop
 mul-pass-span-2 c = let t = c.before.before in omega (arith, here t, (start (test t).before).good)
 
-sub-pass-span : tie.Need-overflow-sub-pass-span invariant-loop decreases-loop
+sub-pass-span : tie.Need-slice_bounds-pass_span-count invariant-loop decreases-loop
 sub-pass-span c = (here c.before.before).low
 
-part-pass-span-start : tie.Need-slice-bounds-pass-span-start invariant-loop decreases-loop
+part-pass-span-start : tie.Need-slice_bounds-pass_span-start invariant-loop decreases-loop
 part-pass-span-start c = omega (arith, here c.before.before)
 
-part-pass-span-end : tie.Need-slice-bounds-pass-span-end invariant-loop decreases-loop
+part-pass-span-end : tie.Need-slice_bounds-pass_span-end invariant-loop decreases-loop
 part-pass-span-end c = omega (arith, here c.before.before)
 
-pass-span-requires : tie.Need-pass-span-requires invariant-loop decreases-loop
+pass-span-requires : tie.Need-pass_span-at-requires invariant-loop decreases-loop
 pass-span-requires c κs =
     let t = c.before.before.before.before in
     let m = test t in
-    rewriting-span m.before.loop.inv (more m) t.before.before.before.before.next2.given.1
-    t.if1.true (frame_is m.before (more m))
+    rewriting-span m.before.loop-k.invariant (more m) t.before.before.before.before.next-in-Found-1.given.1
+    t.if-cursor-numbers.true (frame_is m.before (more m))
 
 -- after the section, chosen or not
 
-loop-less : tie.Need-loop-smaller invariant-loop decreases-loop
+loop-less : tie.Need-loop-k-smaller invariant-loop decreases-loop
 loop-less c =
     let n = c.before.before.before.before.before in
     let m = n.before.before in
-    let r = m.before.loop.invariant in
-    rw r.pre.accepted (rewriting-less r (more m) n.next2.given.1)
+    let r = m.before.loop-k.invariant in
+    rw r.requires.accepted (rewriting-less r (more m) n.next-in-Found-1.given.1)
 
-loop-again : tie.Need-loop-preserved invariant-loop decreases-loop
+loop-again : tie.Need-loop-k-preserved invariant-loop decreases-loop
 loop-again c =
     let n = c.before.before.before.before.before in
     let m = n.before.before in
-    let r = m.before.loop.invariant in
-    let is = n.next2.given.1 in
+    let r = m.before.loop-k.invariant in
+    let is = n.next-in-Found-1.given.1 in
     ⊎_elim
     (λ w. rewriting-chosen r (more m) is w.0.taken (frame_is m.before (more m)) (w.12 ∙ w.5.ensures.0)
     (w.8 ∙ w.5.ensures.1) (omega (arith, w.9)) w.10 w.11
-    (λ h. c.section-ahead.ensures (lt-ltb _ _ h)))
+    (λ h. c.section_ahead-next.ensures (lt-ltb _ _ h)))
     (λ w. rewriting-other r (more m) is w.0.left w.2 w.3 w.4 w.5 w.1
-    (λ h. c.section-ahead.ensures (lt-ltb _ _ h)))
-    c.before.if1.branch
+    (λ h. c.section_ahead-next.ensures (lt-ltb _ _ h)))
+    c.before.if-cursor-numbers.branch
 
 -- after the last chosen section
 
-pass-rest-requires : tie.Need-pass-rest-requires invariant-loop decreases-loop
-pass-rest-requires c κs = rewriting-rest c.before.before.loop.invariant (omega (arith, c.before.loop-test.false))
+pass-rest-requires : tie.Need-pass_rest-requires invariant-loop decreases-loop
+pass-rest-requires c κs = rewriting-rest c.before.before.loop-k.invariant (omega (arith, c.before.loop-k-test.false))
 
-same-length-3 : tie.Need-same-length-3 invariant-loop decreases-loop
-same-length-3 c = omega (arith, rewriting-kept c.before.before.before.before.before.loop.invariant)
+same-length-3 : tie.Need-shape_of-out invariant-loop decreases-loop
+same-length-3 c = omega (arith, rewriting-kept c.before.before.before.before.before.loop-k.invariant)
 
-returns-3 : tie.Need-returns-3 invariant-loop decreases-loop
+returns-3 : tie.Need-returns invariant-loop decreases-loop
 returns-3 c =
     let m = c.before.before in
-    let e = m.pass-rest.ensures in
-    rewriting-done m.before.before.before.loop.invariant (omega (arith, m.before.before.loop-test.false))
+    let e = m.pass_rest.ensures in
+    rewriting-done m.before.before.before.loop-k.invariant (omega (arith, m.before.before.loop-k-test.false))
     e.0 e.1
 
-pub spans-from-spec : {M : Type 1} → statement M
-spans-from-spec =
+pub spans_from_spec : {M : Type 1} → statement M
+spans_from_spec =
     tie.close
     (tie.spec
     invariant-loop decreases-loop loop-holds (λ c. search rules) same_length returns (λ c. search rules) same-length-2 returns-2

@@ -8,23 +8,23 @@ use borrow.Author.Rules.{rules}
 use Rattle.cbf_sections.proofs.frame.placed.Statement.{statement}
 use Rattle.cbf_sections.proofs.frame.placed.Tie as tie
 
-returns : tie.Need-returns
+returns : tie.Need-returns-then-r-eq13
 returns c =
     let b = c.before.before.before in
     let a = b.before.before.args in
-    placed-13 a.first b.answer2.given.0.0 c.if1.true ∙ ap (λ (x : Answer). placed_at a.first (outcome x)) (sym b.answer2.given.1)
+    placed-13 a.first b.answer-in-Refused-1.given.0.0 c.if-r-eq13.true ∙ ap (λ (x : Answer). placed_at a.first (outcome x)) (sym b.answer-in-Refused-1.given.1)
 
-returns-2 : tie.Need-returns-2
+returns-2 : tie.Need-returns-in-Length
 returns-2 c =
     let b = c.before in
     let a = b.before.before.args in
-    ap (λ (x : Answer). placed_at a.first (outcome x)) (sym b.answer.given.1)
+    ap (λ (x : Answer). placed_at a.first (outcome x)) (sym b.answer-1.given.1)
 
-returns-3 : tie.Need-returns-3
+returns-3 : tie.Need-returns-else-r-eq13
 returns-3 c =
     let b = c.before.before.before in
     let a = b.before.before.args in
-    placed-other a.first b.answer2.given.0.0 c.if1.false ∙ ap (λ (x : Answer). placed_at a.first (outcome x)) (sym b.answer2.given.1)
+    placed-other a.first b.answer-in-Refused-1.given.0.0 c.if-r-eq13.false ∙ ap (λ (x : Answer). placed_at a.first (outcome x)) (sym b.answer-in-Refused-1.given.1)
 
-pub placed-spec : {M : Type 1} → statement M
-placed-spec = tie.close (tie.spec (λ c. search rules) (λ c. search rules) returns returns-2 returns-3)
+pub placed_spec : {M : Type 1} → statement M
+placed_spec = tie.close (tie.spec (λ c. search rules) (λ c. search rules) returns returns-2 returns-3)

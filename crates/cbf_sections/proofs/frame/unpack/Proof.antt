@@ -12,48 +12,48 @@ use Rattle.cbf_format.specs.Files as F
 use Rattle.cbf_sections.proofs.frame.unpack.Tie as tie
 
 -- what the reader says of each answer of its own
-said : (m : tie.After-numbered-section) {x : Numbered} → m.numbered-section.result ≡ x
+said : (m : tie.After-numbered_section-numbered) {x : Numbered} → m.numbered_section-numbered.result ≡ x
     → NumberedSays m.before.before.args.file.now m.before.before.args.number
     (F.read m.before.before.args.limit m.before.before.args.file.now) x
 said m e =
     let a = m.before.before.args in
-    subst (NumberedSays a.file.now a.number (F.read a.limit a.file.now)) e m.numbered-section.ensures
+    subst (NumberedSays a.file.now a.number (F.read a.limit a.file.now)) e m.numbered_section-numbered.ensures
 
 -- the section that was found, with the octets that it stands for
-framed : (b : tie.After-numbered2)
+framed : (b : tie.In-As-2)
     → let a = b.before.before.before.before.args in
     (p : Placed)
     × (section_numbered (F.read a.limit a.file.now) a.number ≡ value p)
-    × FrameOf a.file.now p b.numbered2.given.0.0
+    × FrameOf a.file.now p b.numbered-in-As-1.given.0.0
 framed b =
     let m = b.before.before in
     let a = m.before.before.args in
-    frame-of a.limit a.number a.file.now b.numbered2.given.0.0 (said m b.numbered2.given.1)
+    frame-of a.limit a.number a.file.now b.numbered-in-As-1.given.0.0 (said m b.numbered-in-As-1.given.1)
 
-unpack-octets-requires : tie.Need-unpack-octets-requires
+unpack-octets-requires : tie.Need-unpack_octets-requires
 unpack-octets-requires c κs =
     let f = framed c.before.before in
     (f.0, f.2)
 
-returns : tie.Need-returns
+returns : tie.Need-returns-in-Refused
 returns c =
     let b = c.before in
     let m = b.before.before in
     let a = m.before.before.args in
-    frame_refused a.file.now a.number (F.read a.limit a.file.now) b.numbered.given.0.0 a.out.now (said m b.numbered.given.1)
+    frame_refused a.file.now a.number (F.read a.limit a.file.now) b.numbered-1.given.0.0 a.out.now (said m b.numbered-1.given.1)
 
-returns-2 : tie.Need-returns-2
+returns-2 : tie.Need-returns-in-As
 returns-2 c =
     let u = c.before.before in
     let b = u.before.before.before in
     let a = b.before.before.before.before.args in
     let f = framed b in
     let q = frame-says a.limit a.number a.file.now f.1 f.2 a.out.now in
-    let s = b.numbered2.given.0.0 in
-    (c.placed.ensures ∙ ap (placed_at s.first) (u.unpack-octets.ensures.0 f.0 f.2) ∙ q.0, u.unpack-octets.ensures.1 f.0 f.2 ∙ q.1)
+    let s = b.numbered-in-As-1.given.0.0 in
+    (c.placed.ensures ∙ ap (placed_at s.first) (u.unpack_octets.ensures.0 f.0 f.2) ∙ q.0, u.unpack_octets.ensures.1 f.0 f.2 ∙ q.1)
 
-pub unpack-spec : {M : Type 1} → statement M
-unpack-spec =
+pub unpack_spec : {M : Type 1} → statement M
+unpack_spec =
     tie.close
     (tie.spec
     (λ c κs. search rules) (λ c. search rules) (λ c. search rules) unpack-octets-requires

@@ -11,44 +11,44 @@ use Rattle.cbf_format.specs.Files as F
 use Rattle.cbf_sections.proofs.section_calls.octets.Tie as tie
 
 -- the part of the file at the place that was answered
-part : (m : tie.After-octets-at) {x : OctetsPlace} → m.octets-at.result ≡ x
+part : (m : tie.After-octets_at-place) {x : OctetsPlace} → m.octets_at-place.result ≡ x
     → let a = m.before.before.args in
     PartFor a.file.now (octets_part (octets_of (F.read a.limit a.file.now) a.number)) (place_of x)
 part m e =
     let a = m.before.before.args in
     let file = a.file.now in
     subst (PartFor file (octets_part (octets_of (F.read a.limit file) a.number)))
-    (sym m.octets-at.ensures ∙ ap place_of e)
+    (sym m.octets_at-place.ensures ∙ ap place_of e)
     (part_at a.limit a.number file)
 
 joined : (c : tie.At-match-branch)
     → let a = c.before.before.before.args in
-    PartAt a.file.now (octets_part (octets_of (F.read a.limit a.file.now) a.number)) c.match.from c.match.to
+    PartAt a.file.now (octets_part (octets_of (F.read a.limit a.file.now) a.number)) c.match-place.from c.match-place.to
 joined c = ⊎_elim
     (λ w. rw (w.3, w.4) (part c.before w.1.given.1))
     (λ w. rw (w.3, w.4) (part c.before w.1.given.1))
-    c.match.branch
+    c.match-place.branch
 
-add-to : tie.Need-overflow-add-to
+add-to : tie.Need-overflow_add-to
 add-to c =
     let b = c.before in
-    let p = part b.before.before b.place2.given.1 in
+    let p = part b.before.before b.place-in-At-1.given.1 in
     omega (arith, p.high)
 
-sub-result : tie.Need-overflow-sub-result
+sub-result : tie.Need-slice_bounds-result-count
 sub-result c = let p = joined c.before.before in omega (arith, p.low)
 
-part-result-start : tie.Need-slice-bounds-result-start
+part-result-start : tie.Need-slice_bounds-result-start
 part-result-start c = let p = joined c.before.before in omega (arith, p.low)
 
-part-result-end : tie.Need-slice-bounds-result-end
+part-result-end : tie.Need-slice_bounds-result-end
 part-result-end c = let p = joined c.before.before in omega (arith, p.high)
 
 returns : tie.Need-returns
 returns c = part-taken (joined c.before.before.before)
 
-pub octets-spec : {M : Type 1} → statement M
-octets-spec =
+pub octets_spec : {M : Type 1} → statement M
+octets_spec =
     tie.close
     (tie.spec
     (λ c κs. search rules) (λ c. search rules) (λ c. search rules) add-to sub-result part-result-start

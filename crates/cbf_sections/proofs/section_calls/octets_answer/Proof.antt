@@ -9,23 +9,23 @@ use Rattle.cbf_format.specs.Files as F
 use Rattle.cbf_sections.proofs.section_calls.octets_answer.Tie as tie
 
 -- what is answered for each place
-said : (m : tie.After-octets-at) {x : OctetsPlace} → m.octets-at.result ≡ x
+said : (m : tie.After-octets_at-place) {x : OctetsPlace} → m.octets_at-place.result ≡ x
     → let a = m.before.before.args in
     place_outcome (place_of x) ≡ octets_outcome (octets_of (F.read a.limit a.file.now) a.number)
 said m e =
     let a = m.before.before.args in
     ap (λ (y : OctetsPlace). place_outcome (place_of y)) (sym e)
-    ∙ ap place_outcome m.octets-at.ensures
+    ∙ ap place_outcome m.octets_at-place.ensures
     ∙ place-outcome (octets_of (F.read a.limit a.file.now) a.number)
 
-returns : tie.Need-returns
-returns c = said c.before.before.before c.before.place.given.1
+returns : tie.Need-returns-in-Refused
+returns c = said c.before.before.before c.before.place-1.given.1
 
-returns-2 : tie.Need-returns-2
-returns-2 c = said c.before.before.before c.before.place2.given.1
+returns-2 : tie.Need-returns-in-At
+returns-2 c = said c.before.before.before c.before.place-in-At-1.given.1
 
-pub octets-answer-spec : {M : Type 1} → statement M
-octets-answer-spec =
+pub octets_answer_spec : {M : Type 1} → statement M
+octets_answer_spec =
     tie.close
     (tie.spec
     (λ c κs. search rules) (λ c. search rules) (λ c. search rules) returns returns-2)

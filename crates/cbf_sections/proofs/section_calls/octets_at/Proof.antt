@@ -9,25 +9,25 @@ use Rattle.cbf_format.specs.Files as F
 use Rattle.cbf_sections.proofs.section_calls.octets_at.Tie as tie
 
 -- the place for each answer of the reader
-said : (m : tie.After-numbered-section) {x : Numbered} → m.numbered-section.result ≡ x
+said : (m : tie.After-numbered_section-numbered) {x : Numbered} → m.numbered_section-numbered.result ≡ x
     → let a = m.before.before.args in
     numbered_place x ≡ octets_place (octets_of (F.read a.limit a.file.now) a.number)
 said m e =
     let a = m.before.before.args in
     ap numbered_place (sym e)
-    ∙ place_in a.limit a.number a.file.now m.numbered-section.result m.numbered-section.ensures
+    ∙ place_in a.limit a.number a.file.now m.numbered_section-numbered.result m.numbered_section-numbered.ensures
 
-returns : tie.Need-returns
-returns c = said c.before.before.before c.before.numbered.given.1
+returns : tie.Need-returns-in-Refused
+returns c = said c.before.before.before c.before.numbered-1.given.1
 
-returns-2 : tie.Need-returns-2
-returns-2 c = let b = c.before.before.before.before in rw c.enum_told.given.1 at (said b.before.before b.numbered2.given.1)
+returns-2 : tie.Need-returns-in-Binary
+returns-2 c = let b = c.before.before.before.before in rw c.enum_told-1.given.1 at (said b.before.before b.numbered-in-As-1.given.1)
 
-returns-3 : tie.Need-returns-3
-returns-3 c = let b = c.before.before.before.before in rw c.enum-told2.given.1 at (said b.before.before b.numbered2.given.1)
+returns-3 : tie.Need-returns-in-Base64
+returns-3 c = let b = c.before.before.before.before in rw c.enum_told-in-Base64-1.given.1 at (said b.before.before b.numbered-in-As-1.given.1)
 
-pub octets-at-spec : {M : Type 1} → statement M
-octets-at-spec =
+pub octets_at_spec : {M : Type 1} → statement M
+octets_at_spec =
     tie.close
     (tie.spec
     (λ c κs. search rules) (λ c. search rules) (λ c. search rules) (λ c. search rules) (λ c. search rules)

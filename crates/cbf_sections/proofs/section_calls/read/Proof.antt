@@ -9,15 +9,15 @@ use Rattle.cbf_format.specs.Files as F
 use Rattle.cbf_sections.proofs.section_calls.read.Tie as tie
 
 -- what is answered for each count
-said : (m : tie.After-count-sections) {x : Count} → m.count-sections.result ≡ x
+said : (m : tie.After-count_sections-count) {x : Count} → m.count_sections-count.result ≡ x
     → count_says x ≡ read_outcome (F.read m.before.before.args.limit m.before.before.args.file.now)
-said m e = let a = m.before.before.args in ap count_says (sym e ∙ m.count-sections.ensures) ∙ count-outcome (F.read a.limit a.file.now)
+said m e = let a = m.before.before.args in ap count_says (sym e ∙ m.count_sections-count.ensures) ∙ count-outcome (F.read a.limit a.file.now)
 
-returns : tie.Need-returns
-returns c = said c.before.before.before c.before.count.given.1
+returns : tie.Need-returns-in-Refused
+returns c = said c.before.before.before c.before.count-1.given.1
 
-returns-2 : tie.Need-returns-2
-returns-2 c = said c.before.before.before c.before.count2.given.1
+returns-2 : tie.Need-returns-in-Sections
+returns-2 c = said c.before.before.before c.before.count-in-Sections-1.given.1
 
 pub read_spec : {M : Type 1} → statement M
 read_spec =

@@ -10,9 +10,9 @@ returns c =
     let a = c.before.before.args in
     let file = a.file.now in
     let r = F.read a.limit file in
-    let s = c.numbered-section.result in
-    let e = c.numbered-section.ensures in
+    let s = c.numbered_section.result in
+    let e = c.numbered_section.ensures in
     (section-fields file a.number r s e, name-inside file a.number r s e)
 
-pub section-spec : {M : Type 1} → statement M
-section-spec = tie.close (tie.spec (λ c κs. search rules) returns)
+pub section_spec : {M : Type 1} → statement M
+section_spec = tie.close (tie.spec (λ c κs. search rules) returns)

@@ -9,5 +9,5 @@ returns c =
     let a = c.args in
     chosen_is a.a a.b a.c a.x a.y c.requires.0 c.requires.1 c.requires.2 (omega arith) (omega arith)
 
-pub chosen-spec : {M : Type 1} → statement M
-chosen-spec = tie.close (tie.spec returns)
+pub chosen_spec : {M : Type 1} → statement M
+chosen_spec = tie.close (tie.spec returns)

@@ -6,23 +6,23 @@ use Rattle.cbf_sums.proofs.ModuloLaws.{written_none, written-more, written-first
 use Rattle.cbf_sums.proofs.mixed.differences.Statement.{statement}
 use Rattle.cbf_sums.proofs.mixed.differences.Tie as tie
 
-abbrev invariant-loop : tie.invariant-loop
+abbrev invariant-loop : tie.invariant-loop-j
 invariant-loop low high added₀ j₀ added j = (j ≤ 192) × Written (joined_at low high) j 208 added₀ added
 
-abbrev decreases-loop : tie.decreases-loop
+abbrev decreases-loop : tie.decreases-loop-j
 decreases-loop low high added₀ j₀ added j = 192 - j
 
-loop-holds : tie.Need-loop-init invariant-loop decreases-loop
+loop-holds : tie.Need-loop-j-init invariant-loop decreases-loop
 loop-holds c = (omega arith, written_none _ _ _ c.requires)
 
-loop-again : tie.Need-loop-preserved invariant-loop decreases-loop
-loop-again c = (omega arith, written-more _ _ _ _ _ _ c.before.before.before.before.loop.invariant.1 (omega arith) c.joined.ensures)
+loop-again : tie.Need-loop-j-preserved invariant-loop decreases-loop
+loop-again c = (omega arith, written-more _ _ _ _ _ _ c.before.before.before.before.loop-j.invariant.1 (omega arith) c.joined.ensures)
 
 returns : tie.Need-returns invariant-loop decreases-loop
-returns c = written-first 192 c.before.loop.invariant.1 (omega arith)
+returns c = written-first 192 c.before.loop-j.invariant.1 (omega arith)
 
-pub differences-spec : {M : Type 1} → statement M
-differences-spec =
+pub differences_spec : {M : Type 1} → statement M
+differences_spec =
     tie.close
     (tie.spec
     invariant-loop decreases-loop loop-holds (λ c. omega arith) (λ c. omega arith) (λ c. omega arith) (λ c. omega arith)

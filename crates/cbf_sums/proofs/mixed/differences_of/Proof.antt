@@ -7,10 +7,10 @@ use Rattle.cbf_sums.proofs.mixed.differences_of.Tie as tie
 returns : tie.Need-returns
 returns c =
     let h = c.before.before.before.before in
-    joined_is h.before.before.low-octets.ensures h.high-octets.ensures c.differences.ensures
+    joined_is h.before.before.low_octets.ensures h.high_octets.ensures c.differences.ensures
 
-pub differences-of-spec : {M : Type 1} → statement M
-differences-of-spec =
+pub differences_of_spec : {M : Type 1} → statement M
+differences_of_spec =
     tie.close
     (tie.spec
     (λ c κs. search rules) (λ c κs. search rules) (λ c κs. search rules) returns)

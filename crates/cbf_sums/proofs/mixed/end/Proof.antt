@@ -10,5 +10,5 @@ returns c =
     let e = c.args.c in
     (end_is b e c.requires.0 c.requires.1, and_le_l 1 (bit_xor 255 (bit_or b e)))
 
-pub end-spec : {M : Type 1} → statement M
-end-spec = tie.close (tie.spec returns)
+pub end_spec : {M : Type 1} → statement M
+end_spec = tie.close (tie.spec returns)

@@ -6,31 +6,31 @@ use Rattle.cbf_sums.proofs.ModuloLaws.{written_none, written-more, written-first
 use Rattle.cbf_sums.proofs.mixed.high_octets.Statement.{statement}
 use Rattle.cbf_sums.proofs.mixed.high_octets.Tie as tie
 
-abbrev invariant-loop : tie.invariant-loop
+abbrev invariant-loop : tie.invariant-loop-j
 invariant-loop octets i marks high₀ j₀ high j = (j ≤ 192) × Written (high_at octets i marks) j 208 high₀ high
 
-abbrev decreases-loop : tie.decreases-loop
+abbrev decreases-loop : tie.decreases-loop-j
 decreases-loop octets i marks high₀ j₀ high j = 192 - j
 
-loop-holds : tie.Need-loop-init invariant-loop decreases-loop
+loop-holds : tie.Need-loop-j-init invariant-loop decreases-loop
 loop-holds c = (omega arith, written_none _ _ _ c.before.requires.3)
 
 chosen-requires : tie.Need-chosen-requires invariant-loop decreases-loop
 chosen-requires c κs =
     let each = c.before.before.before.before.before.before.before.before.requires.2 in
-    let j = c.before.before.before.before.before.before.loop.j in
+    let j = c.before.before.before.before.before.before.loop-j.j in
     (each (14 + j) (omega arith), each (15 + j) (omega arith), each (16 + j) (omega arith))
 
-loop-again : tie.Need-loop-preserved invariant-loop decreases-loop
+loop-again : tie.Need-loop-j-preserved invariant-loop decreases-loop
 loop-again c =
-    let l = c.before.before.before.before.before.before.before.loop in
+    let l = c.before.before.before.before.before.before.before.loop-j in
     (omega arith, written-more _ _ _ _ _ _ l.invariant.1 (omega arith) (rw (← c.before.sign.ensures) c.chosen.ensures))
 
 returns : tie.Need-returns invariant-loop decreases-loop
-returns c = written-first 192 c.before.loop.invariant.1 (omega arith)
+returns c = written-first 192 c.before.loop-j.invariant.1 (omega arith)
 
-pub high-octets-spec : {M : Type 1} → statement M
-high-octets-spec =
+pub high_octets_spec : {M : Type 1} → statement M
+high_octets_spec =
     tie.close
     (tie.spec
     invariant-loop decreases-loop loop-holds (λ c. omega arith) (λ c. omega arith) (λ c. omega arith) (λ c. omega arith)

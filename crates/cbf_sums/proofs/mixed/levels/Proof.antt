@@ -5,25 +5,25 @@ use Rattle.cbf_sums.proofs.ModuloLaws.{window-mod, window-8, levels-more, under_
 use Rattle.cbf_sums.proofs.mixed.levels.Statement.{statement}
 use Rattle.cbf_sums.proofs.mixed.levels.Tie as tie
 
-abbrev invariant-loop : tie.invariant-loop
+abbrev invariant-loop : tie.invariant-loop-j
 invariant-loop fours pixels₀ all₀ j₀ pixels all j =
     (j ≤ 192) × (length pixels ≡ 208)
     × ((ds : List ℕ) (c : ℕ) → Windows 65536 4 ds 16 192 fours → Levels 65536 ds 16 c 0 pixels₀ → Levels 65536 ds 16 c j pixels)
     × ((k : ℕ) → k < j → get_or pixels (16 + k) 0 ≤ all)
 
-abbrev decreases-loop : tie.decreases-loop
+abbrev decreases-loop : tie.decreases-loop-j
 decreases-loop fours pixels₀ all₀ j₀ pixels all j = 192 - j
 
-loop-holds : tie.Need-loop-init invariant-loop decreases-loop
+loop-holds : tie.Need-loop-j-init invariant-loop decreases-loop
 loop-holds c = (omega arith, c.requires, λ ds b W L. L, λ k h. let y : ⊥ = omega arith in absurd y)
 
-loop-again : tie.Need-loop-preserved invariant-loop decreases-loop
+loop-again : tie.Need-loop-j-preserved invariant-loop decreases-loop
 loop-again c =
     let a = c.before.before.before.before.before.before.before.args in
-    let l = c.before.before.before.before.before.before.loop in
-    let t = c.before.before.before.before.before.loop-test.true in
-    let more = c.before.before.wrapping-add-u16 in
-    let x = c.wrapping-add-u162 in
+    let l = c.before.before.before.before.before.before.loop-j in
+    let t = c.before.before.before.before.before.loop-j-test.true in
+    let more = c.before.before.wrapping_add_u16-more in
+    let x = c.wrapping_add_u16-level in
     let here : 16 + l.j < length l.pixels = omega (arith, l.invariant.1, t) in (
       omega arith,
       length-set l.pixels (16 + l.j) x.result ∙ l.invariant.1,
@@ -34,12 +34,12 @@ loop-again c =
 
 returns : tie.Need-returns invariant-loop decreases-loop
 returns c =
-    let l = c.before.loop in
-    let e : l.j ≡ 192 = omega (arith, l.invariant.0, c.loop-test.false) in
+    let l = c.before.loop-j in
+    let e : l.j ≡ 192 = omega (arith, l.invariant.0, c.loop-j-test.false) in
     (λ ds b W L. subst (λ (k : ℕ). Levels 65536 ds 16 b k l.pixels) e (l.invariant.2 ds b W L), λ k h. l.invariant.3 k (omega arith))
 
-pub levels-spec : {M : Type 1} → statement M
-levels-spec =
+pub levels_spec : {M : Type 1} → statement M
+levels_spec =
     tie.close
     (tie.spec
     invariant-loop decreases-loop loop-holds (λ c. omega arith) (λ c. omega arith) (λ c. omega arith) (λ c. omega arith)

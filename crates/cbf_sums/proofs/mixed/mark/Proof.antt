@@ -4,13 +4,13 @@ use Rattle.cbf_sums.specs.Mixed.{mark_of}
 use Rattle.cbf_sums.proofs.mixed.mark.Statement.{statement}
 use Rattle.cbf_sums.proofs.mixed.mark.Tie as tie
 
-returns : tie.Need-returns
+returns : tie.Need-returns-then-o-eq128
 unfolding mark_of
-returns c = rw (eq-eqb c.before.args.o 128 c.if1.true)
+returns c = rw (eq-eqb c.before.args.o 128 c.if-o-eq128.true)
 
-returns-2 : tie.Need-returns-2
+returns-2 : tie.Need-returns-else-o-eq128
 unfolding mark_of
-returns-2 c = rw (ne_eqb c.before.args.o 128 c.if1.false)
+returns-2 c = rw (ne_eqb c.before.args.o 128 c.if-o-eq128.false)
 
 pub mark_spec : {M : Type 1} → statement M
 mark_spec = tie.close (tie.spec returns returns-2)

@@ -6,32 +6,32 @@ use Rattle.cbf_sums.proofs.LevelsLaws.{walk-near}
 use Rattle.cbf_sums.proofs.mixed.near.Statement.{statement}
 use Rattle.cbf_sums.proofs.mixed.near.Tie as tie
 
-add-back-requires : tie.Need-add-back-requires
+add-back-requires : tie.Need-add_back-requires
 add-back-requires c κs = (omega arith, refl)
 
-add-back-requires-2 : tie.Need-add-back-requires-2
+add-back-requires-2 : tie.Need-add_back-requires-2
 add-back-requires-2 c κs = (omega arith, c.before.before.before.before.before.requires.1.long)
 
-returns : tie.Need-returns
+returns : tie.Need-returns-then-all-gt32767
 returns c = λ h. let y : ⊥ = omega arith in absurd y
 
-returns-2 : tie.Need-returns-2
+returns-2 : tie.Need-returns
 returns-2 c = λ h.
     let s = c.before.before.before.before.before.before.before.before.before.before in
     let ds = s.args.added.now in
     let A = s.requires.1 in
     let pairs = c.before.before.before.before.before.before.before.add_back in
-    let fours = c.before.before.before.before.add-back2 in
-    let L = c.before.levels in
+    let fours = c.before.before.before.before.add_back-2 in
+    let L = c.before.levels-all in
     let one = windows-one 65536 ds 192 A.none in
     let two = windows-twice 65536 ds 16 1 192 208 ds (replicate 208 0) pairs.new.1.1.0 (omega arith) one zeros pairs.ensures in
     let four = windows-twice 65536 ds 16 2 192 208 pairs.new.1.1.0 ds fours.new.1.1.0 (omega arith) two A.none fours.ensures in
     let start = levels-start 65536 ds 16 s.args.c 208 (omega (arith, s.requires.0)) (omega arith) in
     walk-near ds s.args.c L.new.1.0 (L.ensures.0 ds s.args.c four start)
-    (λ k b. omega (arith, L.ensures.1 k b, c.if1.false)) s.requires.0 A.number
+    (λ k b. omega (arith, L.ensures.1 k b, c.if-all-gt32767.false)) s.requires.0 A.number
 
-pub near-spec : {M : Type 1} → statement M
-near-spec =
+pub near_spec : {M : Type 1} → statement M
+near_spec =
     tie.close
     (tie.spec
     add-back-requires add-back-requires-2 (λ c κs. search rules) returns (λ c. search rules) returns-2)

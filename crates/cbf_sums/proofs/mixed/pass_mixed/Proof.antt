@@ -9,46 +9,46 @@ use Rattle.cbf_sums.proofs.PassesLaws.{passed_to}
 use Rattle.cbf_sums.proofs.mixed.pass_mixed.Statement.{statement}
 use Rattle.cbf_sums.proofs.mixed.pass_mixed.Tie as tie
 
-returns : tie.Need-returns
+returns : tie.Need-returns-then-crowded-ne0
 returns c = λ h. let y : ⊥ = omega arith in absurd y
 
-differences-of-requires : tie.Need-differences-of-requires
+differences-of-requires : tie.Need-differences_of-requires
 differences-of-requires c κs =
     let s = c.before.before.before.before.before.before.before.before in
-    let m = c.before.before.before.before.before.mark-each in
+    let m = c.before.before.before.before.before.mark_each in
     (s.requires.3, s.requires.4, each-mark s.args.octets.now s.args.i m.new.1.1.0 (marked _ _ _ m.ensures), refl)
 
-last-pixel-requires : tie.Need-last-pixel-requires
+last-pixel-requires : tie.Need-last_pixel-last-requires
 last-pixel-requires c κs =
     let s = c.before.before.before.before.before.before.before.before.before.before in
-    let k = c.before.before.before.before.before.before.before.before.before.shared-slice-known in
-    let ms = c.before.before.before.before.before.before.before.mark-each.new.1.1.0 in
-    let d = c.before.differences-of in
+    let k = c.before.before.before.before.before.before.before.before.before.shared_slice_known-1 in
+    let ms = c.before.before.before.before.before.before.before.mark_each.new.1.1.0 in
+    let d = c.before.differences_of in
     let A = addends s.args.octets.now s.args.i ms d.new.1.1.1.0 (λ n. omega (arith, k.given n)) d.ensures in
     (s.requires.0, s.requires.1, s.requires.2, A)
 
-returns-2 : tie.Need-returns-2
+returns-2 : tie.Need-returns-then-last-eq0
 returns-2 c = λ h. let y : ⊥ = omega arith in absurd y
 
 ends-requires : tie.Need-ends-requires
 ends-requires c κs =
     let s = c.before.before.before.before.before.before.before.before.before.before.before.before.before.before.before in
-    let m = c.before.before.before.before.before.before.before.before.before.before.before.before.mark-each in
+    let m = c.before.before.before.before.before.before.before.before.before.before.before.before.mark_each in
     each-mark s.args.octets.now s.args.i m.new.1.1.0 (marked _ _ _ m.ensures)
 
-returns-3 : tie.Need-returns-3
+returns-3 : tie.Need-returns
 returns-3 c = λ _.
     let s = c.before.before.before.before.before.before.before.before.before.before.before.before.before.before.before.before in
     let os = s.args.octets.now in
-    let k = c.before.before.before.before.before.before.before.before.before.before.before.before.before.before.before.shared-slice-known in
-    let m = c.before.before.before.before.before.before.before.before.before.before.before.before.before.mark-each in
+    let k = c.before.before.before.before.before.before.before.before.before.before.before.before.before.before.before.shared_slice_known-1 in
+    let m = c.before.before.before.before.before.before.before.before.before.before.before.before.before.mark_each in
     let ms = m.new.1.1.0 in
-    let d = c.before.before.before.before.before.before.before.differences-of in
+    let d = c.before.before.before.before.before.before.before.differences_of in
     let ds = d.new.1.1.1.0 in
-    let last = c.before.before.before.before.before.last-pixel in
-    let whole = c.before.before.whole-octets in
-    let W = last.ensures c.before.before.before.before.if2.false in
-    let none = c.before.before.before.before.before.before.before.before.before.before.if1.false in
+    let last = c.before.before.before.before.before.last_pixel-last in
+    let whole = c.before.before.whole_octets in
+    let W = last.ensures c.before.before.before.before.if-last-eq0.false in
+    let none = c.before.before.before.before.before.before.before.before.before.before.if-crowded-ne0.false in
     let apart = c.before.before.before.before.before.before.before.before.before.before.before.crowded.ensures none in
     let P = mixed-passes s.args.top os s.args.i ms ds s.args.biased last.result (marked _ _ _ m.ensures) apart d.ensures.is
     (λ n. omega (arith, k.given n)) s.requires.3 s.requires.4 W in
@@ -61,8 +61,8 @@ returns-3 c = λ _.
           (omega (arith, whole.ensures.1, s.requires.4)),
     )
 
-pub pass-mixed-spec : {M : Type 1} → statement M
-pass-mixed-spec =
+pub pass_mixed_spec : {M : Type 1} → statement M
+pass_mixed_spec =
     tie.close
     (tie.spec
     (λ c κs. search rules) (λ c κs. search rules) returns differences-of-requires last-pixel-requires

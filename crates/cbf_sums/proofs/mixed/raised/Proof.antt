@@ -7,11 +7,11 @@ use Rattle.cbf_sums.proofs.mixed.raised.Tie as tie
 small : (c : tie.Start) → bit_xor c.args.n 32768 < 65536
 small c = xor_lt 16 c.args.n 32768 (omega arith) (omega arith)
 
-cast-result : tie.Need-overflow-cast-result
+cast-result : tie.Need-overflow_cast-result
 cast-result c = record { fits = omega (arith, small c) }
 
 returns : tie.Need-returns
 returns c = (refl, small c)
 
-pub raised-spec : {M : Type 1} → statement M
-raised-spec = tie.close (tie.spec cast-result returns)
+pub raised_spec : {M : Type 1} → statement M
+raised_spec = tie.close (tie.spec cast-result returns)

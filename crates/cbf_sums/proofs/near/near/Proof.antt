@@ -11,22 +11,22 @@ windows-requires c κs =
     let p = c.before.before.requires in
     (p.0, p.1, p.2, p.3, refl, λ k h. get_or-replicate 1040 k 0 0 (omega arith))
 
-returns : tie.Need-returns
+returns : tie.Need-returns-then-all-gt127
 returns c = λ h. let y : ⊥ = omega arith in absurd y
 
-returns-2 : tie.Need-returns-2
+returns-2 : tie.Need-returns
 returns-2 c = λ h.
     let a = c.before.before.before.before.before.before.before.args in
     let p = c.before.before.before.before.before.before.before.requires in
-    let E = c.before.levels.ensures in
-    let t = c.if1.false in
+    let E = c.before.levels-all.ensures in
+    let t = c.if-all-gt127.false in
     let start = levels-start 256 a.octets.now a.i a.c 1040 (omega (arith, p.4)) (omega arith) in
-    stays a.octets.now a.i a.n a.c c.before.levels.new.1.1.0
+    stays a.octets.now a.i a.n a.c c.before.levels-all.new.1.1.0
     (E.0 a.octets.now a.i a.c c.before.before.before.before.windows.ensures start)
-    (λ k b. omega (arith, E.1 k b)) p.4 p.5 p.1 (λ k. omega (arith, c.before.before.before.before.before.before.shared-slice-known.given k))
+    (λ k b. omega (arith, E.1 k b)) p.4 p.5 p.1 (λ k. omega (arith, c.before.before.before.before.before.before.shared_slice_known-1.given k))
 
-pub near-spec : {M : Type 1} → statement M
-near-spec =
+pub near_spec : {M : Type 1} → statement M
+near_spec =
     tie.close
     (tie.spec
     windows-requires (λ c κs. search rules) returns (λ c. search rules) (λ c. search rules) returns-2)

@@ -10,12 +10,12 @@ returns c =
     let p = c.before.before.before.before.before.before.before.before.before.before.before.requires in
     let F = c.before.before.before.before.before.before.before.before.fours in
     let two = c.before.before.before.before.add4 in
-    let three = c.add42 in
+    let three = c.add4-2 in
     windows-of a.octets.now a.i a.n a.sums.now F.new.1.1.1.0 F.ensures p.5 p.0 (get_or a.octets.now a.i 0)
     two.result three.result refl two.ensures three.ensures
 
-pub windows-spec : {M : Type 1} → statement M
-windows-spec =
+pub windows_spec : {M : Type 1} → statement M
+windows_spec =
     tie.close
     (tie.spec
     (λ c κs. search rules) (λ c. search rules) (λ c. search rules) (λ c. search rules) (λ c. search rules)

@@ -4,25 +4,25 @@ use borrow.Author.Rules.{rules}
 use Rattle.cbf_text.proofs.text_window.refill.Statement.{statement}
 use Rattle.cbf_text.proofs.text_window.refill.Tie as tie
 
-returns : tie.Need-returns
+returns : tie.Need-returns-then-w-got
 returns c =
     let S = c.before.before.before.before.before.before.before.before.before.before.before.before.before.before.before in
     let a = S.args in
-    let d = c.before.before.before.before.before.before.decode in
+    let d = c.before.before.before.before.before.before.decode-d in
     let s = c.before.before.before.before.before.before.before.before.before.before.slide in
-    refilled-last a.file.now a.to a.window.now _ _ a.w _ _ S.requires.2 s.ensures.0 d.ensures.0 s.ensures.1 c.before.if1.true
+    refilled-last a.file.now a.to a.window.now _ _ a.w _ _ S.requires.2 s.ensures.0 d.ensures.0 s.ensures.1 c.before.if-w-got.true
 
-returns-2 : tie.Need-returns-2
+returns-2 : tie.Need-returns
 returns-2 c =
     let S = c.before.before.before.before.before.before.before.before.before.before.before.before.before.before.before in
     let a = S.args in
-    let d = c.before.before.before.before.before.before.decode in
+    let d = c.before.before.before.before.before.before.decode-d in
     let s = c.before.before.before.before.before.before.before.before.before.before.slide in
     refilled-more a.file.now a.to a.window.now _ _ a.w _ _ S.requires.2 s.ensures.0 d.ensures.0
-    s.ensures.1 c.before.if1.false d.ensures.1
+    s.ensures.1 c.before.if-w-got.false d.ensures.1
 
-pub refill-spec : {M : Type 1} → statement M
-refill-spec =
+pub refill_spec : {M : Type 1} → statement M
+refill_spec =
     tie.close
     (tie.spec
     (λ c. search rules) (λ c κs. search rules) (λ c κs. search rules) (λ c. search rules) (λ c. search rules)

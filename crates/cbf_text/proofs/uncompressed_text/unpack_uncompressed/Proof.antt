@@ -13,96 +13,96 @@ use Rattle.cbf_text.proofs.TextWindowLaws.{loaded-more}
 use Rattle.cbf_text.proofs.uncompressed_text.unpack_uncompressed.Statement.{statement}
 use Rattle.cbf_text.proofs.uncompressed_text.unpack_uncompressed.Tie as tie
 
-abbrev invariant-loop : tie.invariant-loop
+abbrev invariant-loop : tie.invariant-loop-k
 invariant-loop kind file from to size count out₀ width window₀ w₀ k₀ out window w k =
     (k ≤ count) × Loaded kind width file from to (take size (text_octets file from to)) out₀ k window w out
 
-abbrev decreases-loop : tie.decreases-loop
+abbrev decreases-loop : tie.decreases-loop-k
 decreases-loop kind file from to size count out₀ width window₀ w₀ k₀ out window w k = count - k
 
-octets-per-requires : tie.Need-octets-per-requires invariant-loop decreases-loop
+octets-per-requires : tie.Need-octets_per-width-requires invariant-loop decreases-loop
 octets-per-requires c κs = tt
 
-loop-holds : tie.Need-loop-init invariant-loop decreases-loop
+loop-holds : tie.Need-loop-k-init invariant-loop decreases-loop
 loop-holds c =
     let S = c.before.before in
     let a = S.args in
     let p = S.requires in
-    (omega arith, loaded-none a.kind c.octets-per.result a.file.now a.from a.to _ a.out.now _ a.size p.0 p.3 refl refl)
+    (omega arith, loaded-none a.kind c.octets_per-width.result a.file.now a.from a.to _ a.out.now _ a.size p.0 p.3 refl refl)
 
-slice-aggregate-refill : tie.Need-slice-aggregate-refill invariant-loop decreases-loop
-slice-aggregate-refill c = sym c.before.before.loop.invariant.1.size
+slice-aggregate-refill : tie.Need-slice_bounds-refill-end invariant-loop decreases-loop
+slice-aggregate-refill c = sym c.before.before.loop-k.invariant.1.size
 
-refill-requires : tie.Need-refill-requires invariant-loop decreases-loop
+refill-requires : tie.Need-refill-v-requires invariant-loop decreases-loop
 refill-requires c κs =
     let p = c.before.before.before.before.before.requires in
-    let L = c.before.before.loop.invariant.1 in
+    let L = c.before.before.loop-k.invariant.1 in
     (p.1, (λ i g h. p.2 i (omega arith) h), L.holds)
 
-div-least : tie.Need-nonzero-div-least invariant-loop decreases-loop
+div-least : tie.Need-nonzero_div-v invariant-loop decreases-loop
 div-least c = omega (arith, has-octets c.before.before.before.before.before.before.before.before.args.kind)
 
-least-requires : tie.Need-least-requires invariant-loop decreases-loop
+least-requires : tie.Need-least-n-requires invariant-loop decreases-loop
 least-requires c κs = tt
 
 -- the window has the octets of the n pixels, and there is one
-turn : (c : tie.After-least invariant-loop decreases-loop)
-    → (c.least.result * c.before.before.before.before.before.before.before.octets-per.result ≤
-    c.before.before.before.refill.result.have) × (0 < c.least.result)
+turn : (c : tie.After-least-n invariant-loop decreases-loop)
+    → (c.least-n.result * c.before.before.before.before.before.before.before.octets_per-width.result ≤
+    c.before.before.before.refill-v.result.have) × (0 < c.least-n.result)
 turn c =
     let S = c.before.before.before.before.before.before.before.before.before in
     let a = S.args in
-    let e = c.before.before.before.before.before.before.before.octets-per.ensures in
-    let r = c.before.before.before.refill in
-    let k = c.before.before.before.before.before.loop-test.true in
+    let e = c.before.before.before.before.before.before.before.octets_per-width.ensures in
+    let r = c.before.before.before.refill-v in
+    let k = c.before.before.before.before.before.loop-k-test.true in
     let A = all-octets a.kind a.count a.size _ S.requires.4 S.requires.3 ∙ ap (λ (i : ℕ). i * a.count) (sym e.0) in
     let o = some-octets a.kind _ a.file.now a.from a.to _ a.out.now
-    c.before.before.before.before.before.before.loop.invariant.1 r.ensures.0.0 r.ensures.0.1
+    c.before.before.before.before.before.before.loop-k.invariant.1 r.ensures.0.0 r.ensures.0.1
     r.ensures.0.2 r.ensures.1.2 a.count A k e.1 r.ensures.1.0 in
-    whole-pixels c.least.result _ _ _ (omega (arith, has-octets a.kind)) o (omega arith) c.least.ensures.1 c.least.ensures.2
+    whole-pixels c.least-n.result _ _ _ (omega (arith, has-octets a.kind)) o (omega arith) c.least-n.ensures.1 c.least-n.ensures.2
 
-mul-used : tie.Need-overflow-mul-used invariant-loop decreases-loop
+mul-used : tie.Need-overflow_mul-used invariant-loop decreases-loop
 mul-used c = record { fits = omega (arith, (turn c).0) }
 
-array-share-prefix-window : tie.Need-array-share-prefix-window invariant-loop decreases-loop
+array-share-prefix-window : tie.Need-slice_bounds-window-end invariant-loop decreases-loop
 array-share-prefix-window c = omega (arith, (turn c).0)
 
-slice-aggregate-unpack : tie.Need-slice-aggregate-unpack invariant-loop decreases-loop
+slice-aggregate-unpack : tie.Need-slice_bounds-unpack-end invariant-loop decreases-loop
 slice-aggregate-unpack c = sym (length-take-le _ _ (omega (arith, (turn c.before).0)))
 
 unpack-requires : tie.Need-unpack-requires invariant-loop decreases-loop
 unpack-requires c κs = tt
 
-loop-less : tie.Need-loop-smaller invariant-loop decreases-loop
+loop-less : tie.Need-loop-k-smaller invariant-loop decreases-loop
 loop-less c = omega (arith, (turn c.before.before.before.before).1)
 
-loop-again : tie.Need-loop-preserved invariant-loop decreases-loop
+loop-again : tie.Need-loop-k-preserved invariant-loop decreases-loop
 loop-again c =
     let S = c.before.before.before.before.before.before.before.before.before.before.before.before.before in
     let a = S.args in
-    let r = c.before.before.before.before.before.before.before.refill in
-    let l = c.before.before.before.before.before.before.before.before.before.before.loop in
-    let n = c.before.before.before.before.least.result in
+    let r = c.before.before.before.before.before.before.before.refill-v in
+    let l = c.before.before.before.before.before.before.before.before.before.before.loop-k in
+    let n = c.before.before.before.before.least-n.result in
     let m : l.k + n ≤ a.count = omega arith in (
       m,
       loaded-more a.kind _ a.file.now a.from a.to _ a.out.now l.invariant.1 r.ensures.0.0
           r.ensures.0.1 r.ensures.0.2 r.ensures.1.2 n _ (turn c.before.before.before.before).0
-          c.before.before.before.before.before.before.before.before.before.before.before.octets-per.ensures.0 (omega arith) (omega arith) r.ensures.1.1 c.before.unpack.ensures.1,
+          c.before.before.before.before.before.before.before.before.before.before.before.octets_per-width.ensures.0 (omega arith) (omega arith) r.ensures.1.1 c.before.unpack.ensures.1,
     )
 
-same_length : tie.Need-same-length invariant-loop decreases-loop
-same_length c = c.before.loop.invariant.1.front.size
+same_length : tie.Need-shape_of-out invariant-loop decreases-loop
+same_length c = c.before.loop-k.invariant.1.front.size
 
 returns : tie.Need-returns invariant-loop decreases-loop
 returns c =
     let S = c.before.before.before.before in
     let a = S.args in
-    let l = c.before.loop in
-    loaded a.kind _ _ l.k a.count _ a.out.now l.out refl c.before.before.octets-per.ensures.0
+    let l = c.before.loop-k in
+    loaded a.kind _ _ l.k a.count _ a.out.now l.out-1 refl c.before.before.octets_per-width.ensures.0
     l.invariant.1.front (omega arith) (all-octets a.kind a.count a.size _ S.requires.4 S.requires.3)
 
-pub unpack-uncompressed-spec : {M : Type 1} → statement M
-unpack-uncompressed-spec =
+pub unpack_uncompressed_spec : {M : Type 1} → statement M
+unpack_uncompressed_spec =
     tie.close
     (tie.spec
     invariant-loop decreases-loop octets-per-requires loop-holds slice-aggregate-refill refill-requires (λ c. omega arith)

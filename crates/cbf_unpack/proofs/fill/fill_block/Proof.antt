@@ -15,13 +15,13 @@ use Rattle.cbf_octets.proofs.PlainLaws.{plain-took}
 use Rattle.cbf_unpack.proofs.fill.fill_block.Statement.{statement}
 use Rattle.cbf_unpack.proofs.fill.fill_block.Tie as tie
 
-abbrev invariant-loop : tie.invariant-loop
+abbrev invariant-loop : tie.invariant-loop-j
 invariant-loop octets i pixel out₀ k z₀ j₀ out z j = (j ≤ 32) × Filled octets (to_z w64 pixel) i j (to_z w64 z) (i + j) k out₀ out
 
-abbrev decreases-loop : tie.decreases-loop
+abbrev decreases-loop : tie.decreases-loop-j
 decreases-loop octets i pixel out₀ k z₀ j₀ out z j = 32 - j
 
-loop-holds : tie.Need-loop-init invariant-loop decreases-loop
+loop-holds : tie.Need-loop-j-init invariant-loop decreases-loop
 loop-holds c =
     let a = c.before.args in
     let u = unpacks-held c.before.requires.0 in
@@ -30,68 +30,68 @@ loop-holds c =
 wide-requires : tie.Need-wide-requires invariant-loop decreases-loop
 wide-requires c κs = tt
 
-extended-requires : tie.Need-extended-requires invariant-loop decreases-loop
+extended-requires : tie.Need-extended-z-requires invariant-loop decreases-loop
 extended-requires c κs = record { exponent = 7; power = refl; small = omega arith; fits = omega (arith, c.wide.ensures.1) }
 
 -- where the octet was read: it is a difference, and one more pixel unpacks
-took : (c : tie.After-extended invariant-loop decreases-loop)
+took : (c : tie.After-extended-z invariant-loop decreases-loop)
     → Took
     c.before.before.before.before.before.before.args.octets.now
-    (c.before.before.before.before.before.before.args.i + c.before.before.before.before.loop.j)
-    c.extended.result
-    (c.before.before.before.before.before.before.args.i + c.before.before.before.before.loop.j + 1)
+    (c.before.before.before.before.before.before.args.i + c.before.before.before.before.loop-j.j)
+    c.extended-z.result
+    (c.before.before.before.before.before.before.args.i + c.before.before.before.before.loop-j.j + 1)
 unfolding half
 took c =
     let a = c.before.before.before.before.before.before.args in
     let P = c.before.before.before.before.before.before.requires in
-    let l = c.before.before.before.before.loop in
+    let l = c.before.before.before.before.loop-j in
     let os = a.octets.now in
-    let t = c.before.before.before.loop-test.true in
+    let t = c.before.before.before.loop-j-test.true in
     let e = c.before.wide.ensures.0 in
-    let r = c.extended.ensures 1 refl ∙ ap (signed 1) e in
+    let r = c.extended-z.ensures 1 refl ∙ ap (signed 1) e in
     subst
     (λ (v : ℤ). Took os (a.i + l.j) v (a.i + l.j + 1))
     (sym r)
     (plain-took os (a.i + l.j) (omega arith) (P.2 l.j t))
 
-unpacks : (c : tie.After-extended invariant-loop decreases-loop)
+unpacks : (c : tie.After-extended-z invariant-loop decreases-loop)
     → Unpacks
     c.before.before.before.before.before.before.args.octets.now
-    (to_z w64 c.before.before.before.before.loop.z)
-    (c.before.before.before.before.before.before.args.i + c.before.before.before.before.loop.j)
+    (to_z w64 c.before.before.before.before.loop-j.z)
+    (c.before.before.before.before.before.before.args.i + c.before.before.before.before.loop-j.j)
     1
     0
 unpacks c = unpacks-then 1 (unpacks-held c.before.before.before.before.before.before.requires.0)
-    c.before.before.before.before.loop.invariant.1 (omega arith)
+    c.before.before.before.before.loop-j.invariant.1 (omega arith)
 
-add-z : tie.Need-overflow-add-z invariant-loop decreases-loop
+add-z : tie.Need-overflow_add-z invariant-loop decreases-loop
 add-z c =
     let g = stepped (unpacks c) (took c) in
-    (held-sum {a = to_z w64 c.before.before.before.before.loop.z} refl g.held_value g.small).0
+    (held-sum {a = to_z w64 c.before.before.before.before.loop-j.z} refl g.held_value g.small).0
 
-slice-set-from-z : tie.Need-slice-set-from-z invariant-loop decreases-loop
-slice-set-from-z c = omega (arith, filled-length c.before.before.before.before.loop.invariant.1)
+slice-set-from-z : tie.Need-bounds-out-k invariant-loop decreases-loop
+slice-set-from-z c = omega (arith, filled-length c.before.before.before.before.loop-j.invariant.1)
 
-loop-again : tie.Need-loop-preserved invariant-loop decreases-loop
+loop-again : tie.Need-loop-j-preserved invariant-loop decreases-loop
 loop-again c =
     let a = c.before.before.before.before.before.before.args in
-    let l = c.before.before.before.before.loop in
+    let l = c.before.before.before.before.loop-j in
     let g = stepped (unpacks c) (took c) in
     let one = filled-one (a.k + l.j) l.out (unpacks c) (took c) (held-sum {a = to_z w64 l.z} refl g.held_value g.small).1 in
     (omega arith, filled-as (filled-then l.invariant.1 one refl refl) refl refl refl (omega arith))
 
-same_length : tie.Need-same-length invariant-loop decreases-loop
-same_length c = filled-length c.before.loop.invariant.1
+same_length : tie.Need-shape_of-out invariant-loop decreases-loop
+same_length c = filled-length c.before.loop-j.invariant.1
 
 returns : tie.Need-returns invariant-loop decreases-loop
 returns c =
     let a = c.before.before.before.args in
     let u = c.before.before.before.requires.0 in
-    let e : c.before.loop.j ≡ 32 = omega arith in
-    filled-as c.before.loop.invariant.1 (held a.pixel (omega (arith, u.before))) e refl (ap (λ (m : ℕ). a.i + m) e)
+    let e : c.before.loop-j.j ≡ 32 = omega arith in
+    filled-as c.before.loop-j.invariant.1 (held a.pixel (omega (arith, u.before))) e refl (ap (λ (m : ℕ). a.i + m) e)
 
-pub fill-block-spec : {M : Type 1} → statement M
-fill-block-spec =
+pub fill_block_spec : {M : Type 1} → statement M
+fill_block_spec =
     tie.close
     (tie.spec
     invariant-loop decreases-loop loop-holds (λ c. omega arith) (λ c. omega arith) wide-requires extended-requires add-z

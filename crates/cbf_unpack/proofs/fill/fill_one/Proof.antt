@@ -4,12 +4,12 @@ use Rattle.cbf_unpack.proofs.FillLaws.{stepped, held-sum, unpacks-whole, filled-
 use Rattle.cbf_unpack.proofs.fill.fill_one.Statement.{statement}
 use Rattle.cbf_unpack.proofs.fill.fill_one.Tie as tie
 
-read-difference-requires : tie.Need-read-difference-requires
+read-difference-requires : tie.Need-read_difference-d-requires
 read-difference-requires c κs = unpacks-whole c.before.requires.0
 
-add-z : tie.Need-overflow-add-z
+add-z : tie.Need-overflow_add-z
 add-z c =
-    let d = c.before.before.before.before.read-difference in
+    let d = c.before.before.before.before.read_difference-d in
     let u = c.before.before.before.before.before.before.requires.0 in
     let g = stepped u d.ensures in
     (held-sum g.held_before g.held_value g.small).0
@@ -17,13 +17,13 @@ add-z c =
 returns : tie.Need-returns
 returns c =
     let a = c.before.before.before.before.before.before.args in
-    let d = c.before.before.before.before.read-difference in
+    let d = c.before.before.before.before.read_difference-d in
     let u = c.before.before.before.before.before.before.requires.0 in
     let g = stepped u d.ensures in
     filled-one a.k a.out.now u d.ensures (held-sum g.held_before g.held_value g.small).1
 
-pub fill-one-spec : {M : Type 1} → statement M
-fill-one-spec =
+pub fill_one_spec : {M : Type 1} → statement M
+fill_one_spec =
     tie.close
     (tie.spec
     read-difference-requires add-z (λ c. search rules) (λ c. search rules) (λ c. search rules) returns)

@@ -14,18 +14,18 @@ use Rattle.cbf_unpack.proofs.uncompressed.pixel.Tie as tie
 small : {half n : ℕ} → Halved half n → n < 2 ^ 63
 small H = let p : 2 ^ H.exponent ≤ 2 ^ 31 = pow-le-pow_right (omega arith) H.small in omega (arith, H.power, H.fits)
 
-returns : tie.Need-returns
+returns : tie.Need-returns-then-signed
 unfolding pixel_of
 returns c k e =
     to_z-of_z (record { sfits = c.extended.type-inv }) ∙ c.extended.ensures k e
-    ∙ ap (λ (b : Bool). pixel_of b k c.before.before.args.n) (sym c.before.if1.true)
+    ∙ ap (λ (b : Bool). pixel_of b k c.before.before.args.n) (sym c.before.if-signed.true)
 
-cast-result : tie.Need-overflow-cast-result
+cast-result : tie.Need-overflow_cast-result
 cast-result c = record { sfits = small c.before.requires }
 
-returns-2 : tie.Need-returns-2
+returns-2 : tie.Need-returns
 unfolding pixel_of
-returns-2 c k e = to_z_pos w64 (small c.before.requires) ∙ ap (λ (b : Bool). pixel_of b k c.before.args.n) (sym c.if1.false)
+returns-2 c k e = to_z_pos w64 (small c.before.requires) ∙ ap (λ (b : Bool). pixel_of b k c.before.args.n) (sym c.if-signed.false)
 
-pub pixel-spec : {M : Type 1} → statement M
-pixel-spec = tie.close (tie.spec (λ c κs. search rules) returns cast-result returns-2)
+pub pixel_spec : {M : Type 1} → statement M
+pixel_spec = tie.close (tie.spec (λ c κs. search rules) returns cast-result returns-2)

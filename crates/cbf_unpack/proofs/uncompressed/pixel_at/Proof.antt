@@ -12,7 +12,7 @@ use Rattle.cbf_unpack.proofs.uncompressed.pixel_at.Tie as tie
 pixel-requires : tie.Need-pixel-requires
 pixel-requires c κs = record { exponent = 7; power = refl; small = omega arith; fits = omega (arith, c.wide.ensures.1) }
 
-returns : tie.Need-returns
+returns : tie.Need-returns-then-width-eq1
 unfolding half
 returns c =
     let a = c.before.before.before.before.before.args in
@@ -20,36 +20,36 @@ returns c =
     ∙ c.pixel.ensures 1 refl
     ∙ pixel-is a.signed a.i a.octets.now (c.before.wide.ensures.0
     ∙ sym (number-one a.i a.octets.now (omega (arith, c.before.before.before.before.before.requires.1))))
-    c.before.before.before.if1.true
+    c.before.before.before.if-width-eq1.true
 
-pixel-requires-2 : tie.Need-pixel-requires-2
+pixel-requires-2 : tie.Need-pixel-requires-then-width-eq2
 pixel-requires-2 c κs = record { exponent = 15; power = refl; small = omega arith; fits = omega (arith, c.le2.ensures.1) }
 
-returns-2 : tie.Need-returns-2
+returns-2 : tie.Need-returns-then-width-eq2
 unfolding half
 returns-2 c =
     let a = c.before.before.before.before.before.args in
-    held c.pixel2.result c.pixel2.type-inv ∙ c.pixel2.ensures 2 refl ∙ pixel-is a.signed a.i
-    a.octets.now c.before.le2.ensures.0 c.before.before.if2.true
+    held c.pixel-then-width-eq2.result c.pixel-then-width-eq2.type-inv ∙ c.pixel-then-width-eq2.ensures 2 refl ∙ pixel-is a.signed a.i
+    a.octets.now c.before.le2.ensures.0 c.before.before.if-width-eq2.true
 
-four : (c : tie.Else2) → c.before.before.before.args.width ≡ 4
-four c = else-four c.before.before.before.args.width c.before.before.before.requires.0 c.before.if1.false c.if2.false
+four : (c : tie.Else-width-eq2) → c.before.before.before.args.width ≡ 4
+four c = else-four c.before.before.before.args.width c.before.before.before.requires.0 c.before.if-width-eq1.false c.if-width-eq2.false
 
 le4-requires : tie.Need-le4-requires
 le4-requires c κs = omega (arith, c.before.before.before.requires.1, four c)
 
-pixel-requires-3 : tie.Need-pixel-requires-3
+pixel-requires-3 : tie.Need-pixel-requires-2
 pixel-requires-3 c κs = record { exponent = 31; power = refl; small = omega arith; fits = omega (arith, c.le4.ensures.1) }
 
-returns-3 : tie.Need-returns-3
+returns-3 : tie.Need-returns
 unfolding half
 returns-3 c =
     let a = c.before.before.before.before.before.args in
-    held c.pixel3.result c.pixel3.type-inv ∙ c.pixel3.ensures 4 refl ∙ pixel-is a.signed a.i
+    held c.pixel-2.result c.pixel-2.type-inv ∙ c.pixel-2.ensures 4 refl ∙ pixel-is a.signed a.i
     a.octets.now c.before.le4.ensures.0 (four c.before.before)
 
-pub pixel-at-spec : {M : Type 1} → statement M
-pixel-at-spec =
+pub pixel_at_spec : {M : Type 1} → statement M
+pixel_at_spec =
     tie.close
     (tie.spec
     (λ c. search rules) (λ c κs. search rules) pixel-requires returns (λ c κs. search rules) pixel-requires-2

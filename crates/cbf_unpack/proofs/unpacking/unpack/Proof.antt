@@ -7,37 +7,37 @@ use borrow.Author.Rules.{rules}
 use Rattle.cbf_unpack.proofs.unpacking.unpack.Statement.{statement}
 use Rattle.cbf_unpack.proofs.unpacking.unpack.Tie as tie
 
-returns : tie.Need-returns
+returns : tie.Need-returns-then-count-gt-PIXEL_LIMIT
 unfolding Unpacked
 returns c =
     let a = c.before.before.before.args in
-    let u = unpack-many a.compression a.kind a.count a.octets.now a.out.now c.before.if1.true in
+    let u = unpack-many a.compression a.kind a.count a.octets.now a.out.now c.before.if-count-gt-PIXEL_LIMIT.true in
     (c.refused.ensures ∙ u.0, u.1)
 
-returns-2 : tie.Need-returns-2
+returns-2 : tie.Need-returns-in-Uncompressed
 returns-2 c =
     let a = c.before.before.before.before.before.before.before.args in
-    let told = sym c.before.before.before.enum_told.given.1 in
-    let E = c.before.unpack-uncompressed.ensures in (
+    let told = sym c.before.before.before.enum_told-1.given.1 in
+    let E = c.before.unpack_uncompressed.ensures in (
       E.0 ∙ ap (λ (x : Compression). unpack_outcome x a.kind a.count a.octets.now (length a.out.now))
           told,
       E.1 ∙ ap (λ (x : Compression). unpack_output x a.kind a.count a.octets.now a.out.now)
           told,
     )
 
-returns-3 : tie.Need-returns-3
+returns-3 : tie.Need-returns-in-ByteOffset
 returns-3 c =
     let a = c.before.before.before.before.before.before.before.args in
-    let told = sym c.before.before.before.enum-told2.given.1 in
-    let E = c.before.unpack-byte-offset.ensures in (
+    let told = sym c.before.before.before.enum_told-in-ByteOffset-1.given.1 in
+    let E = c.before.unpack_byte_offset.ensures in (
       E.0 ∙ ap (λ (x : Compression). unpack_outcome x a.kind a.count a.octets.now (length a.out.now))
           told,
       E.1 ∙ ap (λ (x : Compression). unpack_output x a.kind a.count a.octets.now a.out.now)
           told,
     )
 
-pub unpack-spec : {M : Type 1} → statement M
-unpack-spec =
+pub unpack_spec : {M : Type 1} → statement M
+unpack_spec =
     tie.close
     (tie.spec
     (λ c κs. search rules) returns (λ c. search rules) (λ c κs. search rules) (λ c. search rules)

@@ -7,39 +7,39 @@ use borrow.Author.Rules.{rules}
 use Rattle.cbf_unpack.proofs.unpacking.unpack_byte_offset.Statement.{statement}
 use Rattle.cbf_unpack.proofs.unpacking.unpack_byte_offset.Tie as tie
 
-returns : tie.Need-returns
+returns : tie.Need-returns-then-not-validate
 unfolding Unpacked unpack_pixels
 returns c =
     let a = c.before.before.before.before.args in
     let u = unpack-bad ByteOffset a.kind a.count a.octets.now a.out.now
     c.before.before.before.before.requires (sym c.before.before.validate.ensures
-    ∙ not-true _ c.before.if1.true) in
+    ∙ not-true _ c.before.if-not-validate.true) in
     (c.refused.ensures ∙ u.0, u.1)
 
-returns-2 : tie.Need-returns-2
+returns-2 : tie.Need-returns-then-out-count
 unfolding Unpacked unpack_pixels
 returns-2 c =
     let a = c.before.before.before.before.before.args in
     let u = unpack-no-room ByteOffset a.kind a.count a.octets.now a.out.now
     c.before.before.before.before.before.requires (sym c.before.before.before.validate.ensures
-    ∙ not-false _ c.before.before.if1.false) c.before.if2.true in
-    (c.refused2.ensures ∙ u.0, u.1)
+    ∙ not-false _ c.before.before.if-not-validate.false) c.before.if-out-count.true in
+    (c.refused-then-out-count.ensures ∙ u.0, u.1)
 
 fill-requires : tie.Need-fill-requires
-fill-requires c κs = (sym c.before.before.before.validate.ensures ∙ not-false _ c.before.before.if1.false, c.before.if2.false)
+fill-requires c κs = (sym c.before.before.before.validate.ensures ∙ not-false _ c.before.before.if-not-validate.false, c.before.if-out-count.false)
 
-returns-3 : tie.Need-returns-3
+returns-3 : tie.Need-returns
 unfolding Unpacked unpack_pixels
 returns-3 c =
     let a = c.before.before.before.before.before.before.before.args in
     unpack-done ByteOffset a.kind a.count a.octets.now a.out.now _
     c.before.before.before.before.before.before.before.requires
     (sym c.before.before.before.before.before.validate.ensures
-    ∙ not-false _ c.before.before.before.before.if1.false) c.before.before.before.if2.false
+    ∙ not-false _ c.before.before.before.before.if-not-validate.false) c.before.before.before.if-out-count.false
     c.before.fill.ensures
 
-pub unpack-byte-offset-spec : {M : Type 1} → statement M
-unpack-byte-offset-spec =
+pub unpack_byte_offset_spec : {M : Type 1} → statement M
+unpack_byte_offset_spec =
     tie.close
     (tie.spec
     (λ c κs. search rules) (λ c κs. search rules) returns (λ c κs. search rules) returns-2 fill-requires

@@ -14,29 +14,29 @@ use Rattle.cbf_sums.proofs.PassesLaws.{passes_none, passed-more}
 use Rattle.cbf_validate.proofs.turn.pass_singles.Statement.{statement}
 use Rattle.cbf_validate.proofs.turn.pass_singles.Tie as tie
 
-abbrev invariant-loop : tie.invariant-loop
+abbrev invariant-loop : tie.invariant-loop-again
 invariant-loop octets i biased top left way s₀ k₀ again₀ s k again =
     (k ≤ left) × (s.next ≤ length octets) × (0 < k → Passed top octets biased i k s.biased s.next)
     × (again ≡ true → (k < left) × (((k ≡ 0) × (s.biased ≡ biased) × (s.next ≡ i)) ⊎ ((0 < k) × (s.biased ≡ 0 → ⊥) × (s.next + 480 ≤ length octets))))
     × (again ≡ false → 0 < k)
 
-abbrev decreases-loop : tie.decreases-loop
+abbrev decreases-loop : tie.decreases-loop-again
 decreases-loop octets i biased top left way s₀ k₀ again₀ s k again = left - k
 
-loop-holds : tie.Need-loop-init invariant-loop decreases-loop
+loop-holds : tie.Need-loop-again-init invariant-loop decreases-loop
 loop-holds c =
     let p = c.before.requires in
     (omega arith, p.2, λ h. let y : ⊥ = omega arith in absurd y, λ _. (p.3, inl (refl, refl, refl)), λ e. never (sym e))
 
 -- what is known of the pixels before a part
-ready : (c : tie.In-loop invariant-loop decreases-loop) → Between c.before.before.before.args.top c.before.loop.s.biased
+ready : (c : tie.In-loop-again invariant-loop decreases-loop) → Between c.before.before.before.args.top c.before.loop-again.s.biased
     × Passes c.before.before.before.args.top c.before.before.before.args.octets.now c.before.before.before.args.biased
-    c.before.before.before.args.i c.before.loop.k c.before.loop.s.biased c.before.loop.s.next
+    c.before.before.before.args.i c.before.loop-again.k c.before.loop-again.s.biased c.before.loop-again.s.next
     × ((tail : List ℕ) → Enough c.before.before.before.args.octets.now tail c.before.before.before.args.i 480
-    → Enough c.before.before.before.args.octets.now tail c.before.loop.s.next 480)
+    → Enough c.before.before.before.args.octets.now tail c.before.loop-again.s.next 480)
 ready c =
     let a = c.before.before.before.args in
-    let l = c.before.loop in
+    let l = c.before.loop-again in
     ⊎_elim
     (λ w. (
       subst (Between a.top) (sym w.1) c.before.before.before.requires.1,
@@ -46,36 +46,36 @@ ready c =
       λ tail e. subst (λ (j : ℕ). Enough a.octets.now tail j 480) (sym w.2) e,
     ))
     (λ w. let P = (l.invariant.2 w.0).passed w.1 in (P.0, P.1, λ tail _. inr w.2))
-    (l.invariant.3 c.loop-test.true).1
+    (l.invariant.3 c.loop-again-test.true).1
 
-pass-few-requires : tie.Need-pass-few-requires invariant-loop decreases-loop
+pass-few-requires : tie.Need-pass_few-s-requires invariant-loop decreases-loop
 pass-few-requires c κs =
-    (c.before.before.before.before.requires.0, (ready c.before).0, c.before.before.loop.invariant.1, c.part.ensures.1)
+    (c.before.before.before.before.requires.0, (ready c.before).0, c.before.before.loop-again.invariant.1, c.part-n.ensures.1)
 
-add-k : tie.Need-overflow-add-k invariant-loop decreases-loop
-add-k c = omega (arith, c.before.before.before.loop.invariant.0, c.before.part.ensures.0, c.before.before.before.before.before.ranges.left)
+add-k : tie.Need-overflow_add-k invariant-loop decreases-loop
+add-k c = omega (arith, c.before.before.before.loop-again.invariant.0, c.before.part-n.ensures.0, c.before.before.before.before.before.ranges.left)
 
-go-on-requires : tie.Need-go-on-requires invariant-loop decreases-loop
-go-on-requires c κs = (c.before.before.before.before.before.requires.2, c.pass-few.ensures.inside)
+go-on-requires : tie.Need-go_on-again-requires invariant-loop decreases-loop
+go-on-requires c κs = (c.before.before.before.before.before.requires.2, c.pass_few-s.ensures.inside)
 
-loop-less : tie.Need-loop-smaller invariant-loop decreases-loop
+loop-less : tie.Need-loop-again-smaller invariant-loop decreases-loop
 loop-less c =
-    let l = c.before.before.before.before.loop in
-    let m = (l.invariant.3 c.before.before.before.loop-test.true).0 in
-    let n = c.before.before.part.ensures in
+    let l = c.before.before.before.before.loop-again in
+    let m = (l.invariant.3 c.before.before.before.loop-again-test.true).0 in
+    let n = c.before.before.part-n.ensures in
     omega (arith, n.0, n.2 (omega arith))
 
-loop-again : tie.Need-loop-preserved invariant-loop decreases-loop
+loop-again : tie.Need-loop-again-preserved invariant-loop decreases-loop
 loop-again c =
     let a = c.before.before.before.before.before.before.args in
-    let l = c.before.before.before.before.loop in
-    let m = (l.invariant.3 c.before.before.before.loop-test.true).0 in
-    let n = c.before.before.part in
+    let l = c.before.before.before.before.loop-again in
+    let m = (l.invariant.3 c.before.before.before.loop-again-test.true).0 in
+    let n = c.before.before.part-n in
     let some = n.ensures.2 (omega arith) in
-    let P = c.before.pass-few.ensures in
-    let s = c.before.pass-few.result in
+    let P = c.before.pass_few-s.ensures in
+    let s = c.before.pass_few-s.result in
     let r = ready c.before.before.before in
-    let G = c.go_on.ensures in (
+    let G = c.go_on-again.ensures in (
       omega (arith, n.ensures.0),
       P.inside,
       λ _. passed-more a.top a.octets.now a.biased a.i l.k n.result l.s.biased l.s.next s.biased s.next r.1 r.2 P,
@@ -85,13 +85,13 @@ loop-again c =
 
 returns : tie.Need-returns invariant-loop decreases-loop
 returns c =
-    let l = c.before.before.loop in
-    let h = l.invariant.4 c.before.loop-test.false in
+    let l = c.before.before.loop-again in
+    let h = l.invariant.4 c.before.loop-again-test.false in
     record { some = h; few = l.invariant.0; passed = l.invariant.2 h }
 
-pub pass-singles-spec : {M : Type 1} → statement M
-pass-singles-spec =
+pub pass_singles_spec : {M : Type 1} → statement M
+pass_singles_spec =
     tie.close
     (tie.spec
-    invariant-loop decreases-loop loop-holds (λ c. c.before.loop.invariant.0) (λ c κs. search rules) pass-few-requires add-k
+    invariant-loop decreases-loop loop-holds (λ c. c.before.loop-again.invariant.0) (λ c κs. search rules) pass-few-requires add-k
     go-on-requires loop-less loop-again (λ c κs. search rules) returns)

@@ -12,13 +12,13 @@ use Rattle.cbf_octets.proofs.PlainLaws.{signed-small}
 use Rattle.cbf_validate.proofs.validate.add_block.Statement.{statement}
 use Rattle.cbf_validate.proofs.validate.add_block.Tie as tie
 
-abbrev invariant-loop : tie.invariant-loop
+abbrev invariant-loop : tie.invariant-loop-j
 invariant-loop octets i biased₀ all₀ j₀ biased all j = (j ≤ 32) × Adds octets j biased₀ all₀ i biased all (i + j)
 
-abbrev decreases-loop : tie.decreases-loop
+abbrev decreases-loop : tie.decreases-loop-j
 decreases-loop octets i biased₀ all₀ j₀ biased all j = 32 - j
 
-loop-holds : tie.Need-loop-init invariant-loop decreases-loop
+loop-holds : tie.Need-loop-j-init invariant-loop decreases-loop
 loop-holds c =
     let a = c.before.args in
     let e : a.s.next ≡ a.s.next + 0 = omega arith in (
@@ -28,10 +28,10 @@ loop-holds c =
           (omega (arith, c.before.requires.0))),
     )
 
-add_wide : tie.Need-overflow-add-wide invariant-loop decreases-loop
+add_wide : tie.Need-overflow_add-i invariant-loop decreases-loop
 add_wide c = omega (arith, c.before.before.before.requires.0)
 
-shared-slice-read-wide : tie.Need-shared-slice-read-wide invariant-loop decreases-loop
+shared-slice-read-wide : tie.Need-bounds-octets-i invariant-loop decreases-loop
 shared-slice-read-wide c = omega (arith, c.before.before.before.before.requires.0)
 
 extended-requires : tie.Need-extended-requires invariant-loop decreases-loop
@@ -42,7 +42,7 @@ extended-requires c κs =
 taken_is : (c : tie.After-extended invariant-loop decreases-loop)
     → c.extended.result ≡ signed 1 (get_or c.before.before.before.before.before.before.args.octets.now
     (c.before.before.before.before.before.before.args.s.next +
-    c.before.before.before.before.loop.j) 0)
+    c.before.before.before.before.loop-j.j) 0)
 unfolding half
 taken_is c = c.extended.ensures 1 refl ∙ ap (signed 1) c.before.wide.ensures.0
 
@@ -51,45 +51,45 @@ small : (c : tie.After-extended invariant-loop decreases-loop)
 small c =
     let h = signed-small (get_or c.before.before.before.before.before.before.args.octets.now
     (c.before.before.before.before.before.before.args.s.next +
-    c.before.before.before.before.loop.j) 0) in
+    c.before.before.before.before.loop-j.j) 0) in
     let e = ap nat_abs (taken_is c) in
     omega arith
 
-sum-requires : tie.Need-sum-requires invariant-loop decreases-loop
+sum-requires : tie.Need-sum-biased-requires invariant-loop decreases-loop
 sum-requires c κs =
-    let I = c.before.before.before.before.loop.invariant in
+    let I = c.before.before.before.before.loop-j.invariant in
     let S = c.before.before.before.before.before.before.requires.2 in
     let l = I.1.low in
     let h = I.1.high in
-    let t = c.before.before.before.loop-test.true in
+    let t = c.before.before.before.loop-j-test.true in
     (omega (arith, S.0), omega (arith, S.1), held_small c.extended.result (small c))
 
-loop-again : tie.Need-loop-preserved invariant-loop decreases-loop
+loop-again : tie.Need-loop-j-preserved invariant-loop decreases-loop
 loop-again c =
     let a = c.before.before.before.before.before.before.before.args in
     let p = c.before.before.before.before.before.before.before.requires in
-    let l = c.before.before.before.before.before.loop in
-    let t = c.before.before.before.before.loop-test.true in
+    let l = c.before.before.before.before.before.loop-j in
+    let t = c.before.before.before.before.loop-j-test.true in
     let low = l.invariant.1.low in
     let high = l.invariant.1.high in (
       omega arith,
-      adds-plain a.octets.now l.j a.s.biased a.s.all a.s.next l.biased l.all c.sum.result c.before.extended.result l.invariant.1
+      adds-plain a.octets.now l.j a.s.biased a.s.all a.s.next l.biased l.all c.sum-biased.result c.before.extended.result l.invariant.1
           (omega (arith, p.2.0), omega (arith, p.2.1)) (omega (arith, p.0)) (p.1 l.j t) (taken_is c.before)
-          (c.sum.ensures ∙ ap (λ (z : ℤ). pos l.biased +ℤ z) (held-is c.before.extended.result (small c.before))),
+          (c.sum-biased.ensures ∙ ap (λ (z : ℤ). pos l.biased +ℤ z) (held-is c.before.extended.result (small c.before))),
     )
 
-add-t13 : tie.Need-overflow-add-t13 invariant-loop decreases-loop
+add-t13 : tie.Need-overflow_add-result invariant-loop decreases-loop
 add-t13 c = omega (arith, c.before.before.before.requires.0)
 
 returns : tie.Need-returns invariant-loop decreases-loop
 returns c =
     let a = c.before.before.before.args in
-    let l = c.before.loop in
+    let l = c.before.loop-j in
     let e : l.j ≡ 32 = omega (arith, l.invariant.0) in
     (subst (λ (n : ℕ). Adds a.octets.now n a.s.biased a.s.all a.s.next l.biased l.all (a.s.next + n)) e l.invariant.1, refl)
 
-pub add-block-spec : {M : Type 1} → statement M
-add-block-spec =
+pub add_block_spec : {M : Type 1} → statement M
+add_block_spec =
     tie.close
     (tie.spec
     invariant-loop decreases-loop loop-holds add_wide shared-slice-read-wide (λ c κs. search rules) extended-requires

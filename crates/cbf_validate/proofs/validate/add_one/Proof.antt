@@ -5,21 +5,21 @@ use Rattle.cbf_validate.proofs.ValidateLaws.{took-small, took-sum, held_small, a
 use Rattle.cbf_validate.proofs.validate.add_one.Statement.{statement}
 use Rattle.cbf_validate.proofs.validate.add_one.Tie as tie
 
-read-difference-requires : tie.Need-read-difference-requires
+read-difference-requires : tie.Need-read_difference-d-requires
 read-difference-requires c κs = whole_here c.before.args.octets.now c.before.args.s.next c.before.requires.0
 
-sum-requires : tie.Need-sum-requires
+sum-requires : tie.Need-sum-biased-requires
 sum-requires c κs =
     let S = c.before.before.before.requires.1 in
-    (omega (arith, S.0), omega (arith, S.1), held_small c.before.read-difference.result.value (took-small c.before.read-difference.ensures))
+    (omega (arith, S.0), omega (arith, S.1), held_small c.before.read_difference-d.result.value (took-small c.before.read_difference-d.ensures))
 
 returns : tie.Need-returns
 returns c =
     let a = c.before.before.before.before.before.args in
-    let d = c.before.before.before.read-difference in
-    adds_one a.octets.now a.s.biased a.s.all a.s.next c.before.sum.result d.result.next
+    let d = c.before.before.before.read_difference-d in
+    adds_one a.octets.now a.s.biased a.s.all a.s.next c.before.sum-biased.result d.result.next
     d.result.value c.before.before.before.before.before.requires.1 d.ensures
-    (took-sum a.s.biased c.before.sum.result d.ensures c.before.sum.ensures)
+    (took-sum a.s.biased c.before.sum-biased.result d.ensures c.before.sum-biased.ensures)
 
-pub add-one-spec : {M : Type 1} → statement M
-add-one-spec = tie.close (tie.spec read-difference-requires sum-requires returns)
+pub add_one_spec : {M : Type 1} → statement M
+add_one_spec = tie.close (tie.spec read-difference-requires sum-requires returns)

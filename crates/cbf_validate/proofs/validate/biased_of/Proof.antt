@@ -14,18 +14,18 @@ sum-requires : tie.Need-sum-requires
 sum-requires c κs =
     let a = c.before.args in
     let h = zero-small a.kind in
-    let e = c.biased-zero.ensures in
+    let e = c.biased_zero.ensures in
     (omega (arith, h.0), omega (arith, h.1), held_small a.pixel (omega (arith, abs-le a.pixel (within-small a.kind a.pixel c.before.requires))))
 
 returns : tie.Need-returns
 returns c =
     let a = c.before.before.args in
     let w = c.before.before.requires in
-    let zero = c.before.biased-zero in
+    let zero = c.before.biased_zero in
     let r = c.sum.result in
     let e = c.sum.ensures ∙ ap (λ (z : ℤ). pos zero.result +ℤ z) (within_held a.kind a.pixel w)
     ∙ ap (λ (n : ℕ). pos n +ℤ a.pixel) zero.ensures in
     (pixel-between a.kind a.pixel r e w, pixel-at a.kind a.pixel r e)
 
-pub biased-of-spec : {M : Type 1} → statement M
-biased-of-spec = tie.close (tie.spec (λ c κs. search rules) sum-requires returns)
+pub biased_of_spec : {M : Type 1} → statement M
+biased_of_spec = tie.close (tie.spec (λ c κs. search rules) sum-requires returns)

@@ -7,16 +7,16 @@ use Rattle.cbf_sums.specs.Passes.{Passed}
 use Rattle.cbf_validate.proofs.validate.pass_few.Statement.{statement}
 use Rattle.cbf_validate.proofs.validate.pass_few.Tie as tie
 
-returns-3 : tie.Need-returns-3
+returns-3 : tie.Need-returns
 returns-3 c =
     let a = c.before.before.before.before.args in
     let p = c.before.before.before.before.requires in
-    let r = c.pass-32.result in
-    let e : 32 ≡ a.n = omega (arith, p.3, c.before.before.if1.false) in
-    subst (λ (n : ℕ). Passed a.top a.octets.now a.biased a.i n r.biased r.next) e c.pass-32.ensures
+    let r = c.pass_32.result in
+    let e : 32 ≡ a.n = omega (arith, p.3, c.before.before.if-n-lt32.false) in
+    subst (λ (n : ℕ). Passed a.top a.octets.now a.biased a.i n r.biased r.next) e c.pass_32.ensures
 
-pub pass-few-spec : {M : Type 1} → statement M
-pass-few-spec =
+pub pass_few_spec : {M : Type 1} → statement M
+pass_few_spec =
     tie.close
     (tie.spec
     (λ c κs. search rules) (λ c. search rules) (λ c. search rules) (λ c κs. search rules) (λ c. search rules)

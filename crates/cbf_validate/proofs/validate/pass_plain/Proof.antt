@@ -6,33 +6,33 @@ use borrow.Author.Rules.{rules}
 use Rattle.cbf_validate.proofs.validate.pass_plain.Statement.{statement}
 use Rattle.cbf_validate.proofs.validate.pass_plain.Tie as tie
 
-returns : tie.Need-returns
+returns : tie.Need-returns-then-is_far
 returns c =
     let a = c.before.before.before.before.args in
     let p = c.before.before.before.before.requires in
-    let G = c.sum-run.ensures in
-    let t = c.sum-run.result in
+    let G = c.sum_run-total.ensures in
+    let t = c.sum_run-total.result in
     let most = G.most in
-    let F = c.before.before.is-far.ensures c.before.if1.true in
+    let F = c.before.before.is_far.ensures c.before.if-is_far.true in
     passed_to a.top a.octets.now a.biased a.i a.n (a.biased + t - 128 * a.n) (a.i + a.n)
     (omega (arith, p.5, F.0), omega (arith, p.5, F.1))
     (G.leads a.top a.biased (omega (arith, p.5, F.0)) (omega (arith, p.5, F.1))) p.2
 
-pass-near-requires : tie.Need-pass-near-requires
+pass-near-requires : tie.Need-pass_near-last-requires
 pass-near-requires c κs =
     let p = c.before.before.before.before.before.requires in
-    let L = c.before.is-long.ensures c.if2.true in
+    let L = c.before.is_long.ensures c.if-is_long.true in
     (p.0, p.1, p.2, p.3, p.4, L)
 
-returns-2 : tie.Need-returns-2
+returns-2 : tie.Need-returns-then-last-ne0
 returns-2 c =
     let a = c.before.before.before.before.before.before.before.args in
     let p = c.before.before.before.before.before.before.before.requires in
-    let P = c.before.pass-near.ensures c.if3.true in
-    passed_to a.top a.octets.now a.biased a.i a.n c.before.pass-near.result (a.i + a.n) P.0 P.1 p.2
+    let P = c.before.pass_near-last.ensures c.if-last-ne0.true in
+    passed_to a.top a.octets.now a.biased a.i a.n c.before.pass_near-last.result (a.i + a.n) P.0 P.1 p.2
 
-pub pass-plain-spec : {M : Type 1} → statement M
-pass-plain-spec =
+pub pass_plain_spec : {M : Type 1} → statement M
+pass_plain_spec =
     tie.close
     (tie.spec
     (λ c κs. search rules) (λ c κs. search rules) (λ c. search rules) (λ c. search rules) (λ c. search rules)

@@ -6,23 +6,23 @@ use Rattle.cbf_validate.proofs.ValidateLaws.{between-small, pixel-is, pixel-fits
 use Rattle.cbf_validate.proofs.validate.pixel_of.Statement.{statement}
 use Rattle.cbf_validate.proofs.validate.pixel_of.Tie as tie
 
-cast-result : tie.Need-overflow-cast-result
+cast-result : tie.Need-overflow_cast-result
 cast-result c = record { sfits = (between-small c.args.kind c.args.biased _ c.requires refl).0 }
 
-cast-result-2 : tie.Need-overflow-cast-result-2
+cast-result-2 : tie.Need-overflow_cast-result-2
 cast-result-2 c =
     let a = c.before.args in
-    record { sfits = (between-small a.kind a.biased c.biased-zero.result c.before.requires c.biased-zero.ensures).1 }
+    record { sfits = (between-small a.kind a.biased c.biased_zero.result c.before.requires c.biased_zero.ensures).1 }
 
-sub-result : tie.Need-overflow-sub-result
+sub-result : tie.Need-overflow_sub-result
 sub-result c =
     let a = c.before.args in
-    record { sfits = pixel-fits a.kind a.biased c.biased-zero.result c.before.requires c.biased-zero.ensures }
+    record { sfits = pixel-fits a.kind a.biased c.biased_zero.result c.before.requires c.biased_zero.ensures }
 
 returns : tie.Need-returns
 returns c =
     let a = c.before.args in
-    to_z-of_z (sub-result c) ∙ pixel-is a.kind a.biased c.biased-zero.result c.before.requires c.biased-zero.ensures
+    to_z-of_z (sub-result c) ∙ pixel-is a.kind a.biased c.biased_zero.result c.before.requires c.biased_zero.ensures
 
-pub pixel-of-spec : {M : Type 1} → statement M
-pixel-of-spec = tie.close (tie.spec cast-result (λ c κs. search rules) cast-result-2 sub-result returns)
+pub pixel_of_spec : {M : Type 1} → statement M
+pixel_of_spec = tie.close (tie.spec cast-result (λ c κs. search rules) cast-result-2 sub-result returns)

@@ -11,12 +11,12 @@ use Rattle.cbf_validate.proofs.validate.raised.Tie as tie
 small : (c : tie.Start) → bit_xor c.args.o 128 < 256
 small c = xor_lt 8 c.args.o 128 (omega arith) (omega arith)
 
-cast-result : tie.Need-overflow-cast-result
+cast-result : tie.Need-overflow_cast-result
 cast-result c = record { fits = omega (arith, small c) }
 
 returns : tie.Need-returns
 unfolding half
 returns c = (small c, sym (extend 128 c.args.o (record { exponent = 7; power = refl; small = omega arith; fits = omega arith }) 1 refl))
 
-pub raised-spec : {M : Type 1} → statement M
-raised-spec = tie.close (tie.spec cast-result returns)
+pub raised_spec : {M : Type 1} → statement M
+raised_spec = tie.close (tie.spec cast-result returns)

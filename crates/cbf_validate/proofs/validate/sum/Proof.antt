@@ -19,10 +19,10 @@ sum-at c = sum_of c.args.biased c.args.d c.requires.0 c.requires.1 c.requires.2
 sum_is : (c : tie.Start) → to_z w64 c.args.biased +ℤ to_z w64 (of_z w64 c.args.d) ≡ pos (sum-at c).total
 sum_is c = computed-is c.args.biased c.args.d c.requires.1 c.requires.2 (sum-at c)
 
-add-result : tie.Need-overflow-add-result
+add-result : tie.Need-overflow_add-result
 add-result c = record { sfits = subst (λ (z : ℤ). mag z < 2 ^ 63) (sym (sum_is c)) (sum-at c).small }
 
-cast-result-2 : tie.Need-overflow-cast-result-2
+cast-result-2 : tie.Need-overflow_cast-result-2
 cast-result-2 c =
     let l = (sum-at c).small in
     subst (λ (z : ℤ). T (non_neg z) × Fits w64 (nat_abs z)) (sym (to_z-of_z (add-result c) ∙ sum_is c)) (tt, record { fits = omega arith })
@@ -30,5 +30,5 @@ cast-result-2 c =
 returns : tie.Need-returns
 returns c = ap (λ (z : ℤ). pos (nat_abs z)) (to_z-of_z (add-result c) ∙ sum_is c) ∙ (sum-at c).exact
 
-pub sum-spec : {M : Type 1} → statement M
-sum-spec = tie.close (tie.spec (λ c. search rules) add-result cast-result-2 returns)
+pub sum_spec : {M : Type 1} → statement M
+sum_spec = tie.close (tie.spec (λ c. search rules) add-result cast-result-2 returns)

@@ -8,46 +8,46 @@ use Rattle.cbf_validate.proofs.ValidateLaws.{glides-none, glides-more}
 use Rattle.cbf_validate.proofs.validate.sum_run.Statement.{statement}
 use Rattle.cbf_validate.proofs.validate.sum_run.Tie as tie
 
-abbrev invariant-loop : tie.invariant-loop
+abbrev invariant-loop : tie.invariant-loop-j
 invariant-loop octets i n total₀ j₀ total j = (j ≤ n) × Glides octets i j total
 
-abbrev decreases-loop : tie.decreases-loop
+abbrev decreases-loop : tie.decreases-loop-j
 decreases-loop octets i n total₀ j₀ total j = n - j
 
-loop-holds : tie.Need-loop-init invariant-loop decreases-loop
+loop-holds : tie.Need-loop-j-init invariant-loop decreases-loop
 loop-holds c = (omega arith, glides-none c.before.args.octets.now c.before.args.i)
 
-add-raised : tie.Need-overflow-add-raised invariant-loop decreases-loop
+add-raised : tie.Need-overflow_add-i invariant-loop decreases-loop
 add-raised c = omega (arith, c.before.before.before.requires.0)
 
-shared-slice-read-raised : tie.Need-shared-slice-read-raised invariant-loop decreases-loop
+shared-slice-read-raised : tie.Need-bounds-octets-i invariant-loop decreases-loop
 shared-slice-read-raised c = omega (arith, c.before.before.before.before.requires.0)
 
-add_total : tie.Need-overflow-add-total invariant-loop decreases-loop
+add_total : tie.Need-overflow_add-total invariant-loop decreases-loop
 add_total c =
-    let m = c.before.before.before.loop.invariant.1.most in
-    omega (arith, c.raised.ensures.0, c.before.before.before.loop.invariant.0, c.before.before.before.before.before.requires.2)
+    let m = c.before.before.before.loop-j.invariant.1.most in
+    omega (arith, c.raised-total.ensures.0, c.before.before.before.loop-j.invariant.0, c.before.before.before.before.before.requires.2)
 
-loop-again : tie.Need-loop-preserved invariant-loop decreases-loop
+loop-again : tie.Need-loop-j-preserved invariant-loop decreases-loop
 loop-again c =
     let a = c.before.before.before.before.before.args in
     let p = c.before.before.before.before.before.requires in
-    let l = c.before.before.before.loop in
-    let t = c.before.before.loop-test.true in (
+    let l = c.before.before.before.loop-j in
+    let t = c.before.before.loop-j-test.true in (
       omega arith,
-      glides-more a.octets.now a.i l.j l.total c.raised.result l.invariant.1 (omega (arith, p.0)) (p.1 l.j t)
-          c.raised.ensures.0 c.raised.ensures.1,
+      glides-more a.octets.now a.i l.j l.total c.raised-total.result l.invariant.1 (omega (arith, p.0)) (p.1 l.j t)
+          c.raised-total.ensures.0 c.raised-total.ensures.1,
     )
 
 returns : tie.Need-returns invariant-loop decreases-loop
 returns c =
     let a = c.before.before.before.args in
-    let l = c.before.loop in
-    let e : l.j ≡ a.n = omega (arith, l.invariant.0, c.loop-test.false) in
+    let l = c.before.loop-j in
+    let e : l.j ≡ a.n = omega (arith, l.invariant.0, c.loop-j-test.false) in
     subst (λ (k : ℕ). Glides a.octets.now a.i k l.total) e l.invariant.1
 
-pub sum-run-spec : {M : Type 1} → statement M
-sum-run-spec =
+pub sum_run_spec : {M : Type 1} → statement M
+sum_run_spec =
     tie.close
     (tie.spec
     invariant-loop decreases-loop loop-holds add-raised shared-slice-read-raised (λ c κs. search rules) add_total

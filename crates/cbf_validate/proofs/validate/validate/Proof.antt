@@ -5,20 +5,20 @@ use Rattle.cbf_validate.proofs.ValidateLaws.{zero-within, unpacks-not, unpacks-t
 use Rattle.cbf_validate.proofs.validate.validate.Statement.{statement}
 use Rattle.cbf_validate.proofs.validate.validate.Tie as tie
 
-validate-part-requires : tie.Need-validate-part-requires
+validate-part-requires : tie.Need-validate_part-all-requires
 validate-part-requires c κs = (zero-within c.before.args.kind, omega arith)
 
-returns : tie.Need-returns
+returns : tie.Need-returns-then-not-all
 returns c =
     let a = c.before.before.before.before.args in
-    let all = c.before.before.validate-part in
-    unpacks-not a.kind a.octets.now a.count all.result all.ensures (not-true _ c.if1.true)
+    let all = c.before.before.validate_part-all in
+    unpacks-not a.kind a.octets.now a.count all.result all.ensures (not-true _ c.if-not-all.true)
 
-returns-2 : tie.Need-returns-2
+returns-2 : tie.Need-returns
 returns-2 c =
     let a = c.before.before.before.before.before.args in
-    let all = c.before.before.before.validate-part in
-    unpacks-to a.kind a.octets.now a.count all.result all.ensures (not-false _ c.before.if1.false)
+    let all = c.before.before.before.validate_part-all in
+    unpacks-to a.kind a.octets.now a.count all.result all.ensures (not-false _ c.before.if-not-all.false)
 
-pub validate-spec : {M : Type 1} → statement M
-validate-spec = tie.close (tie.spec validate-part-requires returns returns-2)
+pub validate_spec : {M : Type 1} → statement M
+validate_spec = tie.close (tie.spec validate-part-requires returns returns-2)

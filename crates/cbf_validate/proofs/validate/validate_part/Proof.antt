@@ -14,31 +14,31 @@ use Rattle.cbf_validate.proofs.ValidateLaws.{top-at, valid-not, valid_to}
 use Rattle.cbf_validate.proofs.validate.validate_part.Statement.{statement}
 use Rattle.cbf_validate.proofs.validate.validate_part.Tie as tie
 
-abbrev invariant-loop : tie.invariant-loop
+abbrev invariant-loop : tie.invariant-loop-k
 invariant-loop kind octets ended s count top at₀ way₀ k₀ at way k =
     (k ≤ count) × (at.next ≤ length octets) × Between top at.biased × Passes top octets at₀.biased at₀.next
     k at.biased at.next × (k ≡ 0 → at.next ≡ at₀.next)
 
-abbrev decreases-loop : tie.decreases-loop
+abbrev decreases-loop : tie.decreases-loop-k
 decreases-loop kind octets ended s count top at₀ way₀ k₀ at way k = count - k
 
-biased-of-requires : tie.Need-biased-of-requires invariant-loop decreases-loop
+biased-of-requires : tie.Need-biased_of-requires invariant-loop decreases-loop
 biased-of-requires c κs =
     let a = c.before.before.before.args in
     let w = c.before.before.before.requires.0 in
     ap (within (least a.kind) (greatest a.kind)) (within_held a.kind a.s.pixel w) ∙ w
 
 -- the biased pixel stands for the pixel before
-start_is : (c : tie.After-biased-of invariant-loop decreases-loop) → pixel_at c.before.before.before.before.args.kind
-    c.biased-of.result ≡ c.before.before.before.before.args.s.pixel
-start_is c = let a = c.before.before.before.before.args in c.biased-of.ensures.1 ∙ within_held a.kind
+start_is : (c : tie.After-biased_of invariant-loop decreases-loop) → pixel_at c.before.before.before.before.args.kind
+    c.biased_of.result ≡ c.before.before.before.before.args.s.pixel
+start_is c = let a = c.before.before.before.before.args in c.biased_of.ensures.1 ∙ within_held a.kind
     a.s.pixel c.before.before.before.before.requires.0
 
-loop-holds : tie.Need-loop-init invariant-loop decreases-loop
+loop-holds : tie.Need-loop-k-init invariant-loop decreases-loop
 loop-holds c =
     let a = c.before.before.before.before.args in
-    let top = c.before.before.biased-greatest in
-    let start = c.biased-of in (
+    let top = c.before.before.biased_greatest-top in
+    let start = c.biased_of in (
       omega arith,
       c.before.before.before.before.requires.1,
       subst (λ (n : ℕ). Between n start.result) (sym top.ensures) start.ensures.0,
@@ -46,72 +46,72 @@ loop-holds c =
       λ _. refl,
     )
 
-sub-waits : tie.Need-overflow-sub-waits invariant-loop decreases-loop
-sub-waits c = c.before.loop.invariant.1
+sub-waits : tie.Need-overflow_sub-octets invariant-loop decreases-loop
+sub-waits c = c.before.loop-k.invariant.1
 
 passed-requires : tie.Need-passed-requires invariant-loop decreases-loop
-passed-requires c κs = subst (λ (n : ℕ). Between n c.before.before.before.loop.at.biased)
-    c.before.before.before.before.before.before.biased-greatest.ensures c.before.before.before.loop.invariant.2
+passed-requires c κs = subst (λ (n : ℕ). Between n c.before.before.before.loop-k.at.biased)
+    c.before.before.before.before.before.before.biased_greatest-top.ensures c.before.before.before.loop-k.invariant.2
 
-returns : tie.Need-returns invariant-loop decreases-loop
+returns : tie.Need-returns-then-waits invariant-loop decreases-loop
 returns c =
     let a = c.before.before.before.before.before.before.before.before.before.args in
-    let top = c.before.before.before.before.before.before.before.biased-greatest in
-    let start = c.before.before.before.before.before.biased-of in
-    let l = c.before.before.before.before.loop in
-    let w = c.before.before.waits.ensures.0 c.before.if1.true in
+    let top = c.before.before.before.before.before.before.before.biased_greatest-top in
+    let start = c.before.before.before.before.before.biased_of in
+    let l = c.before.before.before.before.loop-k in
+    let w = c.before.before.waits.ensures.0 c.before.if-waits.true in
     valid_to a.kind a.octets.now a.ended a.s.pixel a.s.next a.count top.result start.result top.ensures
     (start_is c.before.before.before.before.before) _
     l.k l.at.biased l.at.next l.invariant.3 l.invariant.2 l.invariant.0 l.invariant.1 l.invariant.4 (inr (w.0, omega (arith, w.1))) c.passed.ensures
 
-sub-pass-turn : tie.Need-overflow-sub-pass-turn invariant-loop decreases-loop
-sub-pass-turn c = c.before.before.before.loop.invariant.0
+sub-pass-turn : tie.Need-overflow_sub-count invariant-loop decreases-loop
+sub-pass-turn c = c.before.before.before.loop-k.invariant.0
 
-pass-turn-requires : tie.Need-pass-turn-requires invariant-loop decreases-loop
+pass-turn-requires : tie.Need-pass_turn-t-requires invariant-loop decreases-loop
 pass-turn-requires c κs =
-    let I = c.before.before.before.loop.invariant in (
+    let I = c.before.before.before.loop-k.invariant in (
       top-at c.before.before.before.before.before.before.before.before.args.kind
-          c.before.before.before.before.before.before.biased-greatest.ensures,
+          c.before.before.before.before.before.before.biased_greatest-top.ensures,
       I.2,
       I.1,
-      omega (arith, c.before.before.loop-test.true),
+      omega (arith, c.before.before.loop-k-test.true),
     )
 
-returns-2 : tie.Need-returns-2 invariant-loop decreases-loop
+returns-2 : tie.Need-returns-then-t-eq0 invariant-loop decreases-loop
 returns-2 c =
     let a = c.before.before.before.before.before.before.before.before.before.before.before.args in
-    let top = c.before.before.before.before.before.before.before.before.before.biased-greatest in
-    let start = c.before.before.before.before.before.before.before.biased-of in
-    let l = c.before.before.before.before.before.before.loop in
-    let w = c.before.before.before.before.waits.ensures.1 c.before.before.before.if1.false in
-    let t = c.before.before.pass-turn in
+    let top = c.before.before.before.before.before.before.before.before.before.biased_greatest-top in
+    let start = c.before.before.before.before.before.before.before.biased_of in
+    let l = c.before.before.before.before.before.before.loop-k in
+    let w = c.before.before.before.before.waits.ensures.1 c.before.before.before.if-waits.false in
+    let t = c.before.before.pass_turn-t in
     let h = l.invariant.0 in
     valid-not a.kind a.octets.now a.ended a.s.pixel a.s.next a.count top.result start.result top.ensures
     (start_is c.before.before.before.before.before.before.before) _
     (l.k + t.result.count)
     (λ tail b. passes-fails top.result a.octets.now start.result a.s.next l.k t.result.count l.at.biased l.at.next tail l.invariant.3
-    (t.ensures.passed.failed c.if2.true tail (enough a.octets.now tail l.at.next b w)))
+    (t.ensures.passed.failed c.if-t-eq0.true tail (enough a.octets.now tail l.at.next b w)))
     (omega (arith, t.ensures.few)) refl (omega arith) c.before.before.before.before.before.before.before.before.before.before.before.requires.1 (omega arith)
 
-add-k : tie.Need-overflow-add-k invariant-loop decreases-loop
+add-k : tie.Need-overflow_add-k invariant-loop decreases-loop
 add-k c =
-    let t = c.before.before.before.pass-turn in
-    let h = c.before.before.before.before.before.before.before.loop.invariant.0 in
+    let t = c.before.before.before.pass_turn-t in
+    let h = c.before.before.before.before.before.before.before.loop-k.invariant.0 in
     omega (arith, t.ensures.few, c.before.before.before.before.before.before.before.before.before.before.before.before.ranges.count)
 
-loop-less : tie.Need-loop-smaller invariant-loop decreases-loop
-loop-less c = let t = c.before.before.before.pass-turn in let h = c.before.before.before.before.before.before.loop-test.true in omega
+loop-less : tie.Need-loop-k-smaller invariant-loop decreases-loop
+loop-less c = let t = c.before.before.before.pass_turn-t in let h = c.before.before.before.before.before.before.loop-k-test.true in omega
     (arith, t.ensures.some, t.ensures.few)
 
-loop-again : tie.Need-loop-preserved invariant-loop decreases-loop
+loop-again : tie.Need-loop-k-preserved invariant-loop decreases-loop
 loop-again c =
     let a = c.before.before.before.before.before.before.before.before.before.before.before.before.args in
-    let top = c.before.before.before.before.before.before.before.before.before.before.biased-greatest in
-    let start = c.before.before.before.before.before.before.before.before.biased-of in
-    let l = c.before.before.before.before.before.before.before.loop in
-    let t = c.before.before.before.pass-turn in
+    let top = c.before.before.before.before.before.before.before.before.before.before.biased_greatest-top in
+    let start = c.before.before.before.before.before.before.before.before.biased_of in
+    let l = c.before.before.before.before.before.before.before.loop-k in
+    let t = c.before.before.before.pass_turn-t in
     let h = l.invariant.0 in
-    let P = t.ensures.passed.passed c.before.if2.false in (
+    let P = t.ensures.passed.passed c.before.if-t-eq0.false in (
       omega (arith, t.ensures.few),
       t.ensures.passed.inside,
       P.0,
@@ -121,22 +121,22 @@ loop-again c =
     )
 
 passed-requires-2 : tie.Need-passed-requires-2 invariant-loop decreases-loop
-passed-requires-2 c κs = subst (λ (n : ℕ). Between n c.before.loop.at.biased) c.before.before.before.before.biased-greatest.ensures
-    c.before.loop.invariant.2
+passed-requires-2 c κs = subst (λ (n : ℕ). Between n c.before.loop-k.at.biased) c.before.before.before.before.biased_greatest-top.ensures
+    c.before.loop-k.invariant.2
 
-returns-3 : tie.Need-returns-3 invariant-loop decreases-loop
+returns-3 : tie.Need-returns invariant-loop decreases-loop
 returns-3 c =
     let a = c.before.before.before.before.before.before.before.args in
-    let top = c.before.before.before.before.before.biased-greatest in
-    let start = c.before.before.before.biased-of in
-    let l = c.before.before.loop in
+    let top = c.before.before.before.before.before.biased_greatest-top in
+    let start = c.before.before.before.biased_of in
+    let l = c.before.before.loop-k in
     valid_to a.kind a.octets.now a.ended a.s.pixel a.s.next a.count top.result start.result top.ensures
     (start_is c.before.before.before) _
     l.k l.at.biased l.at.next l.invariant.3 l.invariant.2 l.invariant.0 l.invariant.1 l.invariant.4
-    (inl (omega (arith, l.invariant.0, c.before.loop-test.false))) c.passed2.ensures
+    (inl (omega (arith, l.invariant.0, c.before.loop-k-test.false))) c.passed-2.ensures
 
-pub validate-part-spec : {M : Type 1} → statement M
-validate-part-spec =
+pub validate_part_spec : {M : Type 1} → statement M
+validate_part_spec =
     tie.close
     (tie.spec
     invariant-loop decreases-loop (λ c κs. search rules) biased-of-requires loop-holds sub-waits (λ c κs. search rules)

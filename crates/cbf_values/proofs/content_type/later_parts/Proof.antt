@@ -17,77 +17,77 @@ use Rattle.cbf_values.proofs.ContentTypeLaws.{following-end}
 use Rattle.cbf_values.proofs.content_type.later_parts.Statement.{statement}
 use Rattle.cbf_values.proofs.content_type.later_parts.Tie as tie
 
-abbrev invariant-loop : tie.invariant-loop
+abbrev invariant-loop : tie.invariant-loop-at
 invariant-loop file from to found₀ at₀ found at = (from ≤ at) × (at ≤ to) × (later_parts file from to ≡ said_by found (following file at to))
 
-abbrev decreases-loop : tie.decreases-loop
+abbrev decreases-loop : tie.decreases-loop-at
 decreases-loop file from to found₀ at₀ found at = to - at
 
-loop-holds : tie.Need-loop-init invariant-loop decreases-loop
+loop-holds : tie.Need-loop-at-init invariant-loop decreases-loop
 loop-holds c = (omega arith, omega arith, later-start c.before.args.file.now c.before.args.from c.before.args.to)
 
-part-end-requires : tie.Need-part-end-requires invariant-loop decreases-loop
+part-end-requires : tie.Need-part_end-end-requires invariant-loop decreases-loop
 part-end-requires c κs = (omega arith, omega arith)
 
-returns : tie.Need-returns invariant-loop decreases-loop
+returns : tie.Need-returns-in-Unclosed invariant-loop decreases-loop
 returns c =
     let a = c.before.before.before.before.before.before.args in
-    let l = c.before.before.before.before.loop in
+    let l = c.before.before.before.before.loop-at in
     let f = a.file.now in
-    let e = subst (λ (r : PartEnd). PartAt f (l.at + 1) a.to r) c.enum_told.given.1 c.before.before.part-end.ensures in
-    sym (ap whole_of (l.invariant.2 ∙ ap (said_by l.found) (following-here f l.at a.to c.before.before.before.loop-test.true ∙ e)))
+    let e = subst (λ (r : PartEnd). PartAt f (l.at + 1) a.to r) c.enum_told-1.given.1 c.before.before.part_end-end.ensures in
+    sym (ap whole_of (l.invariant.2 ∙ ap (said_by l.found) (following-here f l.at a.to c.before.before.before.loop-at-test.true ∙ e)))
 
 -- the part that ends at p
-ends : (c : tie.After-known-told invariant-loop decreases-loop)
+ends : (c : tie.In-At invariant-loop decreases-loop)
     → PartAt c.before.before.before.before.before.before.before.args.file.now
-    (c.before.before.before.before.before.loop.at + 1)
-    c.before.before.before.before.before.before.before.args.to (At c.before.end.given.0.0)
+    (c.before.before.before.before.before.loop-at.at + 1)
+    c.before.before.before.before.before.before.before.args.to (At c.before.end-1.given.0.0)
 ends c = subst (λ (r : PartEnd). PartAt c.before.before.before.before.before.before.before.args.file.now
-    (c.before.before.before.before.before.loop.at + 1)
-    c.before.before.before.before.before.before.before.args.to r) c.before.end.given.1
-    c.before.before.before.part-end.ensures
+    (c.before.before.before.before.before.loop-at.at + 1)
+    c.before.before.before.before.before.before.before.args.to r) c.before.end-1.given.1
+    c.before.before.before.part_end-end.ensures
 
-with-part-requires : tie.Need-with-part-requires invariant-loop decreases-loop
+with-part-requires : tie.Need-with_part-found-requires invariant-loop decreases-loop
 with-part-requires c κs = let e = ends c in (e.1, omega (arith, e.2))
 
-loop-less : tie.Need-loop-smaller invariant-loop decreases-loop
+loop-less : tie.Need-loop-at-smaller invariant-loop decreases-loop
 loop-less c = let e = ends c.before in omega (arith, e.1, e.2)
 
-loop-again : tie.Need-loop-preserved invariant-loop decreases-loop
+loop-again : tie.Need-loop-at-preserved invariant-loop decreases-loop
 loop-again c =
     let a = c.before.before.before.before.before.before.before.before.args in
-    let l = c.before.before.before.before.before.before.loop in
+    let l = c.before.before.before.before.before.before.loop-at in
     let f = a.file.now in
-    let p = c.before.before.end.given.0.0 in
+    let p = c.before.before.end-1.given.0.0 in
     let e = ends c.before in (
       omega (arith, e.1),
       e.2,
       l.invariant.2
-          ∙ ap (said_by l.found) (following-here f l.at a.to c.before.before.before.before.before.loop-test.true ∙ e.0)
+          ∙ ap (said_by l.found) (following-here f l.at a.to c.before.before.before.before.before.loop-at-test.true ∙ e.0)
           ∙ said-next l.found (joined (slice (l.at + 1) p f)) (following f p a.to)
-          ∙ ap (λ (d : Conversion). said_by d (following f p a.to)) (sym c.with_part.ensures),
+          ∙ ap (λ (d : Conversion). said_by d (following f p a.to)) (sym c.with_part-found.ensures),
     )
 
 -- no part is left
-over : (c : tie.After-loop invariant-loop decreases-loop) → later_parts c.before.before.before.args.file.now
-    c.before.before.before.args.from c.before.before.before.args.to ≡ said_by c.before.loop.found
+over : (c : tie.After-loop-at invariant-loop decreases-loop) → later_parts c.before.before.before.args.file.now
+    c.before.before.before.args.from c.before.before.before.args.to ≡ said_by c.before.loop-at.found
     (some [])
 over c =
     let a = c.before.before.before.args in
-    let l = c.before.loop in
+    let l = c.before.loop-at in
     l.invariant.2 ∙ ap (said_by l.found) (following-end a.file.now l.at a.to (omega (arith, l.invariant.1)))
 
-returns-2 : tie.Need-returns-2 invariant-loop decreases-loop
-returns-2 c = sym (ap whole_of (over c.before.before ∙ ap (λ (d : Conversion). said_by d (some [])) c.enum-told2.given.1))
+returns-2 : tie.Need-returns-in-Unseen invariant-loop decreases-loop
+returns-2 c = sym (ap whole_of (over c.before.before ∙ ap (λ (d : Conversion). said_by d (some [])) c.enum_told-in-Unseen-1.given.1))
 
-returns-3 : tie.Need-returns-3 invariant-loop decreases-loop
-returns-3 c = sym (ap whole_of (over c.before.before ∙ ap (λ (d : Conversion). said_by d (some [])) c.enum-told3.given.1))
+returns-3 : tie.Need-returns-in-Seen invariant-loop decreases-loop
+returns-3 c = sym (ap whole_of (over c.before.before ∙ ap (λ (d : Conversion). said_by d (some [])) c.enum_told-in-Seen-1.given.1))
 
-returns-4 : tie.Need-returns-4 invariant-loop decreases-loop
-returns-4 c = sym (ap whole_of (over c.before.before ∙ ap (λ (d : Conversion). said_by d (some [])) c.enum-told4.given.1))
+returns-4 : tie.Need-returns-in-Wrong invariant-loop decreases-loop
+returns-4 c = sym (ap whole_of (over c.before.before ∙ ap (λ (d : Conversion). said_by d (some [])) c.enum_told-in-Wrong-1.given.1))
 
-pub later-parts-spec : {M : Type 1} → statement M
-later-parts-spec =
+pub later_parts_spec : {M : Type 1} → statement M
+later_parts_spec =
     tie.close
     (tie.spec
     invariant-loop decreases-loop loop-holds (λ c. omega arith) part-end-requires (λ c. search rules) returns

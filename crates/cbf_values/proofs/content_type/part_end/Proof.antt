@@ -14,63 +14,63 @@ use Rattle.cbf_values.proofs.ContentTypeLaws.{part-unclosed, part-last, part-end
 use Rattle.cbf_values.proofs.content_type.part_end.Statement.{statement}
 use Rattle.cbf_values.proofs.content_type.part_end.Tie as tie
 
-abbrev invariant-loop : tie.invariant-loop
+abbrev invariant-loop : tie.invariant-loop-i
 invariant-loop file at to quoted₀ i₀ quoted i = (at ≤ i) × (i ≤ to) × Begun quoted (joined (slice at i file))
 
-abbrev decreases-loop : tie.decreases-loop
+abbrev decreases-loop : tie.decreases-loop-i
 decreases-loop file at to quoted₀ i₀ quoted i = to - i
 
-loop-holds : tie.Need-loop-init invariant-loop decreases-loop
+loop-holds : tie.Need-loop-i-init invariant-loop decreases-loop
 loop-holds c = (omega arith, omega arith, begun-start c.args.file.now c.args.at)
 
-returns : tie.Need-returns invariant-loop decreases-loop
+returns : tie.Need-returns-then-not-quoted invariant-loop decreases-loop
 returns c =
     let a = c.before.before.before.before.before.before.args in
-    let l = c.before.before.before.before.before.loop in
+    let l = c.before.before.before.before.before.loop-i in
     let closed : l.quoted ≡ false =
-    ⊎_elim (λ w. absurd (omega (arith, w.0.taken, c.before.if2.true))) (λ w. sym w.1 ∙ not-true _ c.if3.true) c.before.before.if1.branch in (
+    ⊎_elim (λ w. absurd (omega (arith, w.0.taken, c.before.if-b-eq59.true))) (λ w. sym w.1 ∙ not-true _ c.if-not-quoted.true) c.before.before.if-b-eq34.branch in (
       part-ends a.file.now a.at l.i l.quoted l.invariant.0 l.invariant.2 a.to (omega arith) (omega arith)
-          closed c.before.if2.true,
+          closed c.before.if-b-eq59.true,
       l.invariant.0,
       l.invariant.1,
     )
 
-loop-again : tie.Need-loop-preserved invariant-loop decreases-loop
+loop-again : tie.Need-loop-i-preserved invariant-loop decreases-loop
 loop-again c =
     let a = c.before.before.before.before.before.args in
-    let l = c.before.before.before.before.loop in
+    let l = c.before.before.before.before.loop-i in
     let f = a.file.now in
     let n = joined (slice a.at (l.i + 1) f) in
     let fits : l.i < length f = omega arith in
-    let next : Begun c.before.if1.quoted n =
+    let next : Begun c.before.if-b-eq34.quoted n =
     ⊎_elim
     (λ w. subst (λ (q : Bool). Begun q n) (sym w.1) (begun-quote f a.at l.i l.quoted l.invariant.0 l.invariant.2 fits w.0.taken))
     (λ w. subst (λ (q : Bool). Begun q n) (sym w.1)
     (⊎_elim
     (λ v. begun-quoted f a.at l.i l.quoted l.invariant.0 l.invariant.2 fits (sym w.1 ∙ not-false _ v.1.left) v.0.taken)
     (λ v. begun-other f a.at l.i l.quoted l.invariant.0 l.invariant.2 fits w.0.left v.left)
-    c.if2.branch))
-    c.before.if1.branch in
+    c.if-b-eq59.branch))
+    c.before.if-b-eq34.branch in
     (omega arith, omega arith, next)
 
-returns-2 : tie.Need-returns-2 invariant-loop decreases-loop
+returns-2 : tie.Need-returns-then-quoted invariant-loop decreases-loop
 returns-2 c =
     let s = c.before.before.before in
-    let l = c.before.before.loop in
-    part-unclosed s.args.file.now s.args.at l.i l.quoted l.invariant.0 l.invariant.2 s.args.to (omega (arith, l.invariant.1)) c.if4.true
+    let l = c.before.before.loop-i in
+    part-unclosed s.args.file.now s.args.at l.i l.quoted l.invariant.0 l.invariant.2 s.args.to (omega (arith, l.invariant.1)) c.if-quoted.true
 
-returns-3 : tie.Need-returns-3 invariant-loop decreases-loop
+returns-3 : tie.Need-returns invariant-loop decreases-loop
 returns-3 c =
     let s = c.before.before.before in
-    let l = c.before.before.loop in (
+    let l = c.before.before.loop-i in (
       part-last s.args.file.now s.args.at l.i l.quoted l.invariant.0 l.invariant.2 s.args.to
-          (omega (arith, l.invariant.1)) c.if4.false,
+          (omega (arith, l.invariant.1)) c.if-quoted.false,
       l.invariant.0,
       l.invariant.1,
     )
 
-pub part-end-spec : {M : Type 1} → statement M
-part-end-spec =
+pub part_end_spec : {M : Type 1} → statement M
+part_end_spec =
     tie.close
     (tie.spec
     invariant-loop decreases-loop loop-holds (λ c. omega arith) returns (λ c. omega arith) (λ c. omega arith) loop-again

@@ -19,62 +19,61 @@ use Rattle.cbf_values.proofs.content_type.with_part.Tie as tie
 abbrev part : tie.Start → List ℕ
 part s = joined (slice s.args.from s.args.to s.args.file.now)
 
-returns : tie.Need-returns
+returns : tie.Need-returns-then-not-is_value
 returns c =
     let a = c.before.before.before.before.before.before.args in
-    let m = c.before.before.before.before.equals in
+    let m = c.before.before.before.before.equals-middle in
     sym (with-other a.file.now a.from a.to m.result (omega arith) m.ensures a.found _
-    c.before.is_value.result c.before.before.before.trimmed.ensures.0 c.before.is_value.ensures
-    (not-true _ c.if1.true))
+    c.before.is_value.result c.before.before.before.trimmed-name.ensures.0 c.before.is_value.ensures
+    (not-true _ c.if-not-is_value.true))
 
 -- the part's name is conversions
-named : (c : tie.Else1) (d : Conversion) → c.before.before.before.before.before.before.args.found ≡ d
+named : (c : tie.Else-not-is_value) (d : Conversion) → c.before.before.before.before.before.before.args.found ≡ d
     → with_part c.before.before.before.before.before.before.args.found
     (part c.before.before.before.before.before.before)
     ≡ given d (offset (after 61 (part c.before.before.before.before.before.before)))
 named c d e =
     let a = c.before.before.before.before.before.before.args in
-    let m = c.before.before.before.before.equals in
+    let m = c.before.before.before.before.equals-middle in
     with-named a.file.now a.from a.to m.result (omega arith) m.ensures a.found _
-    c.before.is_value.result c.before.before.before.trimmed.ensures.0 c.before.is_value.ensures
-    (not-false _ c.if1.false)
+    c.before.is_value.result c.before.before.before.trimmed-name.ensures.0 c.before.is_value.ensures
+    (not-false _ c.if-not-is_value.false)
     ∙ ap (λ (f : Conversion). given f (offset (after 61 (part c.before.before.before.before.before.before)))) e
 
-returns-2 : tie.Need-returns-2
+returns-2 : tie.Need-returns-then-middle-to
 returns-2 c =
     let a = c.before.before.before.before.before.before.before.before.before.args in
-    let m = c.before.before.before.before.before.before.before.equals in
-    sym (named c.before.before.before Unseen c.before.enum-told3.given.1 ∙ given-none a.file.now
-    a.from a.to m.result (omega arith) m.ensures c.if2.true)
+    let m = c.before.before.before.before.before.before.before.equals-middle in
+    sym (named c.before.before.before Unseen c.before.enum_told-in-Unseen-1.given.1 ∙ given-none a.file.now
+    a.from a.to m.result (omega arith) m.ensures c.if-middle-to.true)
 
 -- and it has a value
-valued : (c : tie.After-is-byte-offset)
+valued : (c : tie.After-is_byte_offset)
     → with_part c.before.before.before.before.before.before.before.before.before.before.args.found
     (part c.before.before.before.before.before.before.before.before.before.before)
-    ≡ cond c.is-byte-offset.result Seen Wrong
+    ≡ cond c.is_byte_offset.result Seen Wrong
 valued c =
     let a = c.before.before.before.before.before.before.before.before.before.before.args in
-    let m = c.before.before.before.before.before.before.before.before.equals in
-    let h : m.result < a.to = omega (arith, m.ensures.high, c.before.if2.false) in
-    named c.before.before.before.before Unseen c.before.before.enum-told3.given.1
-    ∙ given-value a.file.now a.from a.to m.result (omega arith) m.ensures h c.is-byte-offset.result c.is-byte-offset.ensures
+    let m = c.before.before.before.before.before.before.before.before.equals-middle in
+    let h : m.result < a.to = omega (arith, m.ensures.high, c.before.if-middle-to.false) in
+    named c.before.before.before.before Unseen c.before.before.enum_told-in-Unseen-1.given.1
+    ∙ given-value a.file.now a.from a.to m.result (omega arith) m.ensures h c.is_byte_offset.result c.is_byte_offset.ensures
 
-returns-3 : tie.Need-returns-3
-returns-3 c = sym (valued c.before ∙ ap (λ (b : Bool). cond b Seen Wrong) c.if3.true)
+returns-3 : tie.Need-returns-then-is_byte_offset
+returns-3 c = sym (valued c.before ∙ ap (λ (b : Bool). cond b Seen Wrong) c.if-is_byte_offset.true)
 
-returns-4 : tie.Need-returns-4
-returns-4 c = sym (named c.before.before Seen c.enum_told.given.1)
+returns-4 : tie.Need-returns-in-Seen
+returns-4 c = sym (named c.before.before Seen c.enum_told-1.given.1)
 
-returns-5 : tie.Need-returns-5
-returns-5 c = sym (named c.before.before Wrong c.enum-told2.given.1)
+returns-5 : tie.Need-returns-in-Wrong
+returns-5 c = sym (named c.before.before Wrong c.enum_told-in-Wrong-1.given.1)
 
-returns-6 : tie.Need-returns-6
-returns-6 c = sym (valued c.before ∙ ap (λ (b : Bool). cond b Seen Wrong) c.if3.false)
+returns-6 : tie.Need-returns-else-is_byte_offset
+returns-6 c = sym (valued c.before ∙ ap (λ (b : Bool). cond b Seen Wrong) c.if-is_byte_offset.false)
 
-pub with-part-spec : {M : Type 1} → statement M
-with-part-spec =
+pub with_part_spec : {M : Type 1} → statement M
+with_part_spec =
     tie.close
     (tie.spec
-    (λ c κs. search rules) (λ c κs. search rules) (λ c. search rules) (λ c κs. search rules) returns
-    (λ c. search rules) (λ c. search rules) (λ c. search rules) returns-2 (λ c. search rules)
-    (λ c κs. search rules) returns-3 returns-4 returns-5 returns-6)
+
+    (λ c κs. search rules) (λ c κs. search rules) (λ c κs. search rules) returns (λ c. search rules) (λ c. search rules) (λ c. search rules) returns-2 (λ c. search rules) (λ c κs. search rules) returns-3 returns-4 returns-5 returns-6)

@@ -14,35 +14,35 @@ Filled s = s.args.from < s.args.to
 filled : (s : tie.Start) → (s.args.from ≡ s.args.to → ⊥) → Filled s
 filled s e = omega (arith, s.requires.order)
 
-returns : tie.Need-returns
-returns c = (unquoted-empty c.before.requires c.if1.true, omega arith, c.before.requires.order, omega arith)
+returns : tie.Need-returns-then-from-to
+returns c = (unquoted-empty c.before.requires c.if-from-to.true, omega arith, c.before.requires.order, omega arith)
 
-returns-2 : tie.Need-returns-2
+returns-2 : tie.Need-returns-then-file-from-ne34
 returns-2 c =
     let s = c.before.before.before in
-    (unquoted-whole s.requires (filled s c.before.before.if1.false) c.if2.true, omega arith, s.requires.order, omega arith)
+    (unquoted-whole s.requires (filled s c.before.before.if-from-to.false) c.if-file-from-ne34.true, omega arith, s.requires.order, omega arith)
 
-returns-3 : tie.Need-returns-3
+returns-3 : tie.Need-returns-then-to-from-lt2
 returns-3 c =
     let s = c.before.before.before.before in
-    let h : Filled s = filled s c.before.before.before.if1.false in
-    unquoted-one s.requires h c.before.if2.false (omega (arith, c.if3.true))
+    let h : Filled s = filled s c.before.before.before.if-from-to.false in
+    unquoted-one s.requires h c.before.if-file-from-ne34.false (omega (arith, c.if-to-from-lt2.true))
 
-returns-4 : tie.Need-returns-4
+returns-4 : tie.Need-returns-then-file-to-ne34
 returns-4 c =
     let s = c.before.before.before.before.before.before in
-    let h : Filled s = filled s c.before.before.before.before.before.if1.false in
-    unquoted-open s.requires h c.before.before.before.if2.false (omega (arith, c.before.before.if3.false)) c.if4.true
+    let h : Filled s = filled s c.before.before.before.before.before.if-from-to.false in
+    unquoted-open s.requires h c.before.before.before.if-file-from-ne34.false (omega (arith, c.before.before.if-to-from-lt2.false)) c.if-file-to-ne34.true
 
-returns-5 : tie.Need-returns-5
+returns-5 : tie.Need-returns
 returns-5 c =
     let s = c.before.before.before.before.before.before in
-    let h : Filled s = filled s c.before.before.before.before.before.if1.false in
-    let k : s.args.from + 1 < s.args.to = omega (arith, c.before.before.if3.false) in
-    (unquoted-inner s.requires h c.before.before.before.if2.false k c.if4.false, omega arith, omega arith, omega arith)
+    let h : Filled s = filled s c.before.before.before.before.before.if-from-to.false in
+    let k : s.args.from + 1 < s.args.to = omega (arith, c.before.before.if-to-from-lt2.false) in
+    (unquoted-inner s.requires h c.before.before.before.if-file-from-ne34.false k c.if-file-to-ne34.false, omega arith, omega arith, omega arith)
 
-pub unquoted-spec : {M : Type 1} → statement M
-unquoted-spec =
+pub unquoted_spec : {M : Type 1} → statement M
+unquoted_spec =
     tie.close
     (tie.spec
     returns (λ c. search rules) returns-2 (λ c. search rules) returns-3 (λ c. search rules)

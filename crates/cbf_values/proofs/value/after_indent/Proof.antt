@@ -6,23 +6,23 @@ use Rattle.cbf_values.proofs.ValueLaws.{indented-one, indented-two}
 use Rattle.cbf_values.proofs.value.after_indent.Statement.{statement}
 use Rattle.cbf_values.proofs.value.after_indent.Tie as tie
 
-returns : tie.Need-returns
+returns : tie.Need-returns-then-file-at-eq10
 returns c =
     let s = c.before.before.before.before.before.before.before in
-    indented-two s.args.file.now s.args.to s.requires.1 s.args.at c.after-blanks.result
-    c.before.before.before.before.if1.true (omega arith) c.before.if3.true
-    c.after-blanks.ensures
+    indented-two s.args.file.now s.args.to s.requires.1 s.args.at c.after_blanks.result
+    c.before.before.before.before.if-file-at-eq13.true (omega arith) c.before.if-file-at-eq10.true
+    c.after_blanks.ensures
 
-returns-2 : tie.Need-returns-2
+returns-2 : tie.Need-returns
 returns-2 c =
     let s = c.before.before.before.before in
     let f = s.args.file.now in
-    indented-one f s.args.to s.requires.1 s.args.at c.after-blanks2.result s.requires.2 s.requires.0
-    (λ x l t. ⊎_elim (λ w. w.3.left t) (⊎_elim (λ w. omega (arith, w.1.left)) (λ w. w.left x)) c.before.if1.branch)
-    c.after-blanks2.ensures
+    indented-one f s.args.to s.requires.1 s.args.at c.after_blanks-2.result s.requires.2 s.requires.0
+    (λ x l t. ⊎_elim (λ w. w.3.left t) (⊎_elim (λ w. omega (arith, w.1.left)) (λ w. w.left x)) c.before.if-file-at-eq13.branch)
+    c.after_blanks-2.ensures
 
-pub after-indent-spec : {M : Type 1} → statement M
-after-indent-spec =
+pub after_indent_spec : {M : Type 1} → statement M
+after_indent_spec =
     tie.close
     (tie.spec
     (λ c. search rules) (λ c. search rules) (λ c. search rules) (λ c. search rules) (λ c. search rules)

@@ -9,16 +9,16 @@ use Rattle.cbf_values.proofs.ValueLaws.{not-end-byte}
 use Rattle.cbf_values.proofs.value.blank_or_end.Statement.{statement}
 use Rattle.cbf_values.proofs.value.blank_or_end.Tie as tie
 
-returns : tie.Need-returns
-returns c = sym (ap (λ (z : ℕ). end_byte z || blank z) c.if1.true)
+returns : tie.Need-returns-then-b-eq13
+returns c = sym (ap (λ (z : ℕ). end_byte z || blank z) c.if-b-eq13.true)
 
-returns-2 : tie.Need-returns-2
-returns-2 c = sym (ap (λ (z : ℕ). end_byte z || blank z) c.if2.true)
+returns-2 : tie.Need-returns-then-b-eq10
+returns-2 c = sym (ap (λ (z : ℕ). end_byte z || blank z) c.if-b-eq10.true)
 
-returns-3 : tie.Need-returns-3
+returns-3 : tie.Need-returns
 returns-3 c =
     let b = c.before.before.before.args.b in
-    c.blank.ensures ∙ sym (ap (λ (z : Bool). z || blank b) (not-end-byte b c.before.before.if1.false c.before.if2.false))
+    c.blank.ensures ∙ sym (ap (λ (z : Bool). z || blank b) (not-end-byte b c.before.before.if-b-eq13.false c.before.if-b-eq10.false))
 
-pub blank-or-end-spec : {M : Type 1} → statement M
-blank-or-end-spec = tie.close (tie.spec returns returns-2 (λ c κs. search rules) returns-3)
+pub blank_or_end_spec : {M : Type 1} → statement M
+blank_or_end_spec = tie.close (tie.spec returns returns-2 (λ c κs. search rules) returns-3)

@@ -12,59 +12,59 @@ use Rattle.cbf_values.proofs.ValueLaws.{word_over, word-differs, word-turn, word
 use Rattle.cbf_values.proofs.value.is_value.Statement.{statement}
 use Rattle.cbf_values.proofs.value.is_value.Tie as tie
 
-abbrev invariant-loop : tie.invariant-loop
+abbrev invariant-loop : tie.invariant-loop-i
 invariant-loop file from to word at₀ i₀ at i =
     (at ≤ to) × (i ≤ length word) × (same word (lowers (joined (slice from to file))) ≡ same (drop i word) (lowers (joined (slice at to file))))
 
-abbrev decreases-loop : tie.decreases-loop
+abbrev decreases-loop : tie.decreases-loop-i
 decreases-loop file from to word at₀ i₀ at i = length word - i
 
-loop-holds : tie.Need-loop-init invariant-loop decreases-loop
+loop-holds : tie.Need-loop-i-init invariant-loop decreases-loop
 loop-holds c = (omega arith, omega arith, refl)
 
-returns : tie.Need-returns invariant-loop decreases-loop
+returns : tie.Need-returns-in-End invariant-loop decreases-loop
 returns c =
     let a = c.before.before.before.before.before.before.before.args in
-    let l = c.before.before.before.before.loop in
-    let e = subst (λ (r : Character). Stepped a.file.now l.at a.to r) c.enum_told.given.1 c.before.before.character-at.ensures in
-    sym (l.invariant.2 ∙ word_over a.word.now l.i c.before.before.before.loop-test.true (joined (slice l.at a.to a.file.now)) e)
+    let l = c.before.before.before.before.loop-i in
+    let e = subst (λ (r : Character). Stepped a.file.now l.at a.to r) c.enum_told-1.given.1 c.before.before.character_at-c.ensures in
+    sym (l.invariant.2 ∙ word_over a.word.now l.i c.before.before.before.loop-i-test.true (joined (slice l.at a.to a.file.now)) e)
 
-returns-2 : tie.Need-returns-2 invariant-loop decreases-loop
+returns-2 : tie.Need-returns-then-lower-word invariant-loop decreases-loop
 returns-2 c =
     let a = c.before.before.before.before.before.before.before.before.before.before.before.args in
-    let l = c.before.before.before.before.before.before.before.before.loop in
-    let m = c.before.before.before.before.c.given in
+    let l = c.before.before.before.before.before.before.before.before.loop-i in
+    let m = c.before.before.before.before.c-1.given in
     let e = subst (λ (r : Character). Stepped a.file.now l.at a.to r) m.1
-    c.before.before.before.before.before.before.character-at.ensures in
-    let t = c.before.before.before.before.before.before.before.loop-test.true in
+    c.before.before.before.before.before.before.character_at-c.ensures in
+    let t = c.before.before.before.before.before.before.before.loop-i-test.true in
     sym (l.invariant.2 ∙ word-differs a.word.now l.i t m.0.0 (joined (slice l.at a.to a.file.now))
     (joined (slice m.0.1.0 a.to a.file.now)) e.0
-    (λ q. c.if1.true (c.before.before.lower.ensures ∙ q)))
+    (λ q. c.if-lower-word.true (c.before.before.lower.ensures ∙ q)))
 
-loop-again : tie.Need-loop-preserved invariant-loop decreases-loop
+loop-again : tie.Need-loop-i-preserved invariant-loop decreases-loop
 loop-again c =
     let a = c.before.before.before.before.before.before.before.before.before.before.before.args in
-    let l = c.before.before.before.before.before.before.before.before.loop in
-    let m = c.before.before.before.before.c.given in
+    let l = c.before.before.before.before.before.before.before.before.loop-i in
+    let m = c.before.before.before.before.c-1.given in
     let e = subst (λ (r : Character). Stepped a.file.now l.at a.to r) m.1
-    c.before.before.before.before.before.before.character-at.ensures in
-    let t = c.before.before.before.before.before.before.before.loop-test.true in (
+    c.before.before.before.before.before.before.character_at-c.ensures in
+    let t = c.before.before.before.before.before.before.before.loop-i-test.true in (
       e.2,
       omega arith,
       l.invariant.2 ∙ word-turn a.word.now l.i t m.0.0 (joined (slice l.at a.to a.file.now))
           (joined (slice m.0.1.0 a.to a.file.now)) e.0 (sym c.before.before.lower.ensures
-          ∙ c.if1.false),
+          ∙ c.if-lower-word.false),
     )
 
-returns-3 : tie.Need-returns-3 invariant-loop decreases-loop
+returns-3 : tie.Need-returns invariant-loop decreases-loop
 returns-3 c =
     let st = c.before.before.before.before in
     let a = st.args in
-    let l = c.before.loop in
+    let l = c.before.loop-i in
     sym (l.invariant.2 ∙ word-ends a.word.now l.i a.file.now l.at a.to (omega arith) (omega arith) (omega arith))
 
-pub is-value-spec : {M : Type 1} → statement M
-is-value-spec =
+pub is_value_spec : {M : Type 1} → statement M
+is_value_spec =
     tie.close
     (tie.spec
     invariant-loop decreases-loop loop-holds (λ c κs. search rules) (λ c. search rules) returns (λ c. search rules)

@@ -12,7 +12,7 @@ use Rattle.cbf_values.proofs.ValueLaws.{digit-high, digit-yes, ten-digits, one-m
 use Rattle.cbf_values.proofs.value.number.Statement.{statement}
 use Rattle.cbf_values.proofs.value.number.Tie as tie
 
-abbrev invariant-loop : tie.invariant-loop
+abbrev invariant-loop : tie.invariant-loop-i
 invariant-loop file from to least most n₀ i₀ n i =
     (from ≤ i)
     × (i ≤ to)
@@ -20,71 +20,71 @@ invariant-loop file from to least most n₀ i₀ n i =
     × (digits (slice from to file) ≡ digits (slice i to file))
     × (decimal 0 (slice from to file) ≡ decimal n (slice i to file))
 
-abbrev decreases-loop : tie.decreases-loop
+abbrev decreases-loop : tie.decreases-loop-i
 decreases-loop file from to least most n₀ i₀ n i = to - i
 
-returns : tie.Need-returns invariant-loop decreases-loop
+returns : tie.Need-returns-then-to-from-lt1 invariant-loop decreases-loop
 returns c =
     let a = c.before.args in
     let s = slice a.from a.to a.file.now in
     whole-bad a.least a.most s (number_short s (omega (arith, length-slice a.from a.to a.file.now c.before.requires.1)))
 
-returns-2 : tie.Need-returns-2 invariant-loop decreases-loop
+returns-2 : tie.Need-returns-then-to-from-gt10 invariant-loop decreases-loop
 returns-2 c =
     let a = c.before.before.args in
     let s = slice a.from a.to a.file.now in
     whole-bad a.least a.most s (number-long s (omega (arith, length-slice a.from a.to a.file.now c.before.before.requires.1)))
 
-loop-holds : tie.Need-loop-init invariant-loop decreases-loop
+loop-holds : tie.Need-loop-i-init invariant-loop decreases-loop
 loop-holds c =
     let a = c.before.before.args in
     let z : a.from - a.from ≡ 0 = omega arith in
     (omega arith, omega arith, rw z (omega arith), refl, refl)
 
-returns-3 : tie.Need-returns-3 invariant-loop decreases-loop
+returns-3 : tie.Need-returns-then-b-lt48 invariant-loop decreases-loop
 returns-3 c =
     let st = c.before.before.before.before.before.before in
     let a = st.args in
-    let l = c.before.before.before.loop in
+    let l = c.before.before.before.loop-i in
     let s = slice a.from a.to a.file.now in
     whole-bad a.least a.most s (number-none s (l.invariant.3 ∙ digits-over a.file.now l.i a.to
-    c.before.before.loop-test.true st.requires.1 (digit_low (get_or a.file.now l.i 0)
-    c.if3.true)))
+    c.before.before.loop-i-test.true st.requires.1 (digit_low (get_or a.file.now l.i 0)
+    c.if-b-lt48.true)))
 
-returns-4 : tie.Need-returns-4 invariant-loop decreases-loop
+returns-4 : tie.Need-returns-then-b-gt57 invariant-loop decreases-loop
 returns-4 c =
     let st = c.before.before.before.before.before.before.before in
     let a = st.args in
-    let l = c.before.before.before.before.loop in
+    let l = c.before.before.before.before.loop-i in
     let s = slice a.from a.to a.file.now in
     whole-bad a.least a.most s (number-none s (l.invariant.3 ∙ digits-over a.file.now l.i a.to
-    c.before.before.before.loop-test.true st.requires.1 (digit-high (get_or a.file.now l.i 0)
-    c.if4.true)))
+    c.before.before.before.loop-i-test.true st.requires.1 (digit-high (get_or a.file.now l.i 0)
+    c.if-b-gt57.true)))
 
-mul-n : tie.Need-overflow-mul-n invariant-loop decreases-loop
+mul-n : tie.Need-overflow_mul-n invariant-loop decreases-loop
 mul-n c =
     let a = c.before.before.before.before.before.before.before.args in
-    let l = c.before.before.before.before.loop in
+    let l = c.before.before.before.before.loop-i in
     omega (arith, ten-digits (l.i - a.from) l.n l.invariant.2 (omega arith))
 
-cast-n : tie.Need-overflow-cast-n invariant-loop decreases-loop
+cast-n : tie.Need-overflow_cast-n invariant-loop decreases-loop
 cast-n c =
-    let l = c.before.before.before.before.loop in
-    omega (arith, c.before.before.shared-slice-known.given l.i)
+    let l = c.before.before.before.before.loop-i in
+    omega (arith, c.before.before.shared_slice_known-1.given l.i)
 
-add-n : tie.Need-overflow-add-n invariant-loop decreases-loop
+add-n : tie.Need-overflow_add-n invariant-loop decreases-loop
 add-n c =
     let a = c.before.before.before.before.before.before.before.args in
-    let l = c.before.before.before.before.loop in
-    omega (arith, c.before.before.shared-slice-known.given l.i, ten-digits (l.i - a.from) l.n l.invariant.2 (omega arith))
+    let l = c.before.before.before.before.loop-i in
+    omega (arith, c.before.before.shared_slice_known-1.given l.i, ten-digits (l.i - a.from) l.n l.invariant.2 (omega arith))
 
-loop-again : tie.Need-loop-preserved invariant-loop decreases-loop
+loop-again : tie.Need-loop-i-preserved invariant-loop decreases-loop
 loop-again c =
     let st = c.before.before.before.before.before.before.before in
     let a = st.args in
     let f = a.file.now in
-    let l = c.before.before.before.before.loop in
-    let t = c.before.before.before.loop-test.true in
+    let l = c.before.before.before.before.loop-i in
+    let t = c.before.before.before.loop-i-test.true in
     let b = get_or f l.i 0 in
     let z : suc (l.i - a.from) ≡ l.i + 1 - a.from = omega arith in (
       omega arith,
@@ -94,35 +94,35 @@ loop-again c =
       l.invariant.4 ∙ decimal-turn f l.i a.to t st.requires.1 l.n,
     )
 
-returns-5 : tie.Need-returns-5 invariant-loop decreases-loop
+returns-5 : tie.Need-returns-then-n-least invariant-loop decreases-loop
 returns-5 c =
     let st = c.before.before.before.before.before in
     let a = st.args in
-    let l = c.before.before.loop in
+    let l = c.before.before.loop-i in
     let s = slice a.from a.to a.file.now in
     whole-less a.least a.most s l.n (known a.file.now a.from a.to l.i l.n (omega arith)
-    (omega arith) (omega arith) st.requires.1 l.invariant.3 l.invariant.4) c.if5.true
+    (omega arith) (omega arith) st.requires.1 l.invariant.3 l.invariant.4) c.if-n-least.true
 
-returns-6 : tie.Need-returns-6 invariant-loop decreases-loop
+returns-6 : tie.Need-returns-then-most-n invariant-loop decreases-loop
 returns-6 c =
     let st = c.before.before.before.before.before.before in
     let a = st.args in
-    let l = c.before.before.before.loop in
+    let l = c.before.before.before.loop-i in
     let s = slice a.from a.to a.file.now in
     whole-more a.least a.most s l.n (known a.file.now a.from a.to l.i l.n (omega arith)
-    (omega arith) (omega arith) st.requires.1 l.invariant.3 l.invariant.4) c.if6.true
+    (omega arith) (omega arith) st.requires.1 l.invariant.3 l.invariant.4) c.if-most-n.true
 
-returns-7 : tie.Need-returns-7 invariant-loop decreases-loop
+returns-7 : tie.Need-returns invariant-loop decreases-loop
 returns-7 c =
     let st = c.before.before.before.before.before.before in
     let a = st.args in
-    let l = c.before.before.before.loop in
+    let l = c.before.before.before.loop-i in
     let s = slice a.from a.to a.file.now in
     whole_in a.least a.most s l.n (known a.file.now a.from a.to l.i l.n (omega arith)
     (omega arith) (omega arith) st.requires.1 l.invariant.3 l.invariant.4) (omega arith) (omega arith)
 
-pub number-spec : {M : Type 1} → statement M
-number-spec =
+pub number_spec : {M : Type 1} → statement M
+number_spec =
     tie.close
     (tie.spec
     invariant-loop decreases-loop (λ c. omega arith) returns (λ c. omega arith) returns-2 loop-holds (λ c. omega arith)

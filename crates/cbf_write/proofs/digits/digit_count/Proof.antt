@@ -4,23 +4,23 @@ use Rattle.cbf_write.proofs.DigitsLaws.{Counted, counted_none, counted-more, cou
 use Rattle.cbf_write.proofs.digits.digit_count.Statement.{statement}
 use Rattle.cbf_write.proofs.digits.digit_count.Tie as tie
 
-abbrev invariant-loop : tie.invariant-loop
+abbrev invariant-loop : tie.invariant-loop-rest
 invariant-loop n rest₀ k₀ rest k = Counted 20 n k rest
 
-abbrev decreases-loop : tie.decreases-loop
+abbrev decreases-loop : tie.decreases-loop-rest
 decreases-loop n rest₀ k₀ rest k = rest
 
-loop-holds : tie.Need-loop-init invariant-loop decreases-loop
+loop-holds : tie.Need-loop-rest-init invariant-loop decreases-loop
 loop-holds c = counted_none 19 c.args.n (omega arith)
 
-loop-again : tie.Need-loop-preserved invariant-loop decreases-loop
-loop-again c = counted-more c.before.loop.invariant c.loop-test.true
+loop-again : tie.Need-loop-rest-preserved invariant-loop decreases-loop
+loop-again c = counted-more c.before.loop-rest.invariant c.loop-rest-test.true
 
 returns : tie.Need-returns invariant-loop decreases-loop
-returns c = counted-all c.before.loop.invariant (omega arith)
+returns c = counted-all c.before.loop-rest.invariant (omega arith)
 
-pub digit-count-spec : {M : Type 1} → statement M
-digit-count-spec =
+pub digit_count_spec : {M : Type 1} → statement M
+digit_count_spec =
     tie.close
     (tie.spec
     invariant-loop decreases-loop loop-holds (λ c. omega arith) (λ c. omega arith) loop-again returns)

@@ -12,65 +12,65 @@ use Rattle.cbf_write.proofs.PutLaws.{puts-length, sets-part, held_more}
 use Rattle.cbf_write.proofs.large.copy_block.Statement.{statement}
 use Rattle.cbf_write.proofs.large.copy_block.Tie as tie
 
-abbrev invariant-loop : tie.invariant-loop
+abbrev invariant-loop : tie.invariant-loop-j
 invariant-loop out at bytes i n held₀ j₀ held j = (j ≤ n) × (length held ≡ 268435456) × ((k : ℕ) → k < j → get_or held k 0 ≡ get_or bytes (i + k) 0)
 
-abbrev decreases-loop : tie.decreases-loop
+abbrev decreases-loop : tie.decreases-loop-j
 decreases-loop out at bytes i n held₀ j₀ held j = n - j
 
-abbrev invariant-loop2 : tie.invariant-loop2
+abbrev invariant-loop2 : tie.invariant-loop-k
 invariant-loop2 out₀ at bytes i n held j k₀ out k = (k ≤ n) × (out ≡ sets out₀ (at + i) (take k (drop i bytes)))
 
-abbrev decreases-loop2 : tie.decreases-loop2
+abbrev decreases-loop2 : tie.decreases-loop-k
 decreases-loop2 out₀ at bytes i n held j k₀ out k = n - k
 
-loop-holds : tie.Need-loop-init invariant-loop decreases-loop invariant-loop2 decreases-loop2
-loop-holds c = (omega arith, c.block.ensures, λ k h. absurd (omega arith))
+loop-holds : tie.Need-loop-j-init invariant-loop decreases-loop invariant-loop2 decreases-loop2
+loop-holds c = (omega arith, c.block-held.ensures, λ k h. absurd (omega arith))
 
-loop-again : tie.Need-loop-preserved invariant-loop decreases-loop invariant-loop2 decreases-loop2
+loop-again : tie.Need-loop-j-preserved invariant-loop decreases-loop invariant-loop2 decreases-loop2
 loop-again c =
     let s = c.before.before.before.before.before.before in
-    let l = c.before.before.loop in
+    let l = c.before.before.loop-j in
     let f : ℕ → ℕ = λ k. get_or s.args.bytes.now (s.args.i + k) 0 in (
       omega arith,
       length-set l.held l.j (f l.j) ∙ l.invariant.1,
       held_more l.held f l.j (omega (arith, l.invariant.1, s.requires.0)) l.invariant.2,
     )
 
-loop2-holds : tie.Need-loop2-init invariant-loop decreases-loop invariant-loop2 decreases-loop2
+loop2-holds : tie.Need-loop-k-init invariant-loop decreases-loop invariant-loop2 decreases-loop2
 loop2-holds c = (omega arith, refl)
 
-slice-write-out : tie.Need-slice-write-out invariant-loop decreases-loop invariant-loop2 decreases-loop2
+slice-write-out : tie.Need-bounds-out-at invariant-loop decreases-loop invariant-loop2 decreases-loop2
 slice-write-out c =
     let a = c.before.before.before.before.before.before.before.args in
-    let l = c.before.loop2 in
+    let l = c.before.loop-k in
     omega (arith, puts-length l.out a.out.now [] (take l.k (drop a.i a.bytes.now)) (a.at + a.i) l.invariant.1)
 
-loop2-again : tie.Need-loop2-preserved invariant-loop decreases-loop invariant-loop2 decreases-loop2
+loop2-again : tie.Need-loop-k-preserved invariant-loop decreases-loop invariant-loop2 decreases-loop2
 loop2-again c =
     let a = c.before.before.before.before.before.before.before.args in
-    let l = c.before.loop2 in
-    let held = c.before.before.before.loop in (
+    let l = c.before.loop-k in
+    let held = c.before.before.before.loop-j in (
       omega arith,
-      rw (l.invariant.1, held.invariant.2 l.k (omega (arith, c.before.before.loop-test.false)), add-one)
+      rw (l.invariant.1, held.invariant.2 l.k (omega (arith, c.before.before.loop-j-test.false)), add-one)
           (sets-part a.out.now a.bytes.now (a.at + a.i) a.i l.k (omega arith)),
     )
 
-same_length : tie.Need-same-length invariant-loop decreases-loop invariant-loop2 decreases-loop2
+same_length : tie.Need-shape_of-out invariant-loop decreases-loop invariant-loop2 decreases-loop2
 same_length c =
     let a = c.before.before.before.before.before.before.before.args in
-    let l = c.before.loop2 in
+    let l = c.before.loop-k in
     puts-length l.out a.out.now [] (take l.k (drop a.i a.bytes.now)) (a.at + a.i) l.invariant.1
 
 returns : tie.Need-returns invariant-loop decreases-loop invariant-loop2 decreases-loop2
 returns c =
     let a = c.before.before.before.before.before.before.before.args in
-    let l = c.before.loop2 in
-    let e : l.k ≡ a.n = omega (arith, l.invariant.0, c.loop2-test.false) in
+    let l = c.before.loop-k in
+    let e : l.k ≡ a.n = omega (arith, l.invariant.0, c.loop-k-test.false) in
     (refl, rw (← e) l.invariant.1)
 
-pub copy-block-spec : {M : Type 1} → statement M
-copy-block-spec =
+pub copy_block_spec : {M : Type 1} → statement M
+copy_block_spec =
     tie.close
     (tie.spec
     invariant-loop decreases-loop invariant-loop2 decreases-loop2 (λ c κs. search rules) loop-holds (λ c. omega arith) (λ c. omega arith)

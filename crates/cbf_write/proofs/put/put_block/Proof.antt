@@ -10,42 +10,42 @@ use Rattle.cbf_write.proofs.PutLaws.{puts-length, sets-part}
 use Rattle.cbf_write.proofs.put.put_block.Statement.{statement}
 use Rattle.cbf_write.proofs.put.put_block.Tie as tie
 
-abbrev invariant-loop : tie.invariant-loop
+abbrev invariant-loop : tie.invariant-loop-j
 invariant-loop out₀ at text i n j₀ out j = (j ≤ n) × (out ≡ sets out₀ (at + i) (take j (drop i text)))
 
-abbrev decreases-loop : tie.decreases-loop
+abbrev decreases-loop : tie.decreases-loop-j
 decreases-loop out₀ at text i n j₀ out j = n - j
 
-loop-holds : tie.Need-loop-init invariant-loop decreases-loop
+loop-holds : tie.Need-loop-j-init invariant-loop decreases-loop
 loop-holds c = (omega arith, refl)
 
-slice-write-out : tie.Need-slice-write-out invariant-loop decreases-loop
+slice-write-out : tie.Need-bounds-out-at invariant-loop decreases-loop
 slice-write-out c =
     let a = c.before.before.before.args in
-    let l = c.before.before.loop in
+    let l = c.before.before.loop-j in
     omega (arith, puts-length l.out a.out.now [] (take l.j (drop a.i a.text.now)) (a.at + a.i) l.invariant.1)
 
-loop-again : tie.Need-loop-preserved invariant-loop decreases-loop
+loop-again : tie.Need-loop-j-preserved invariant-loop decreases-loop
 loop-again c =
     let a = c.before.before.before.args in
-    let l = c.before.before.loop in
+    let l = c.before.before.loop-j in
     (omega arith, rw (l.invariant.1, add-one) (sets-part a.out.now a.text.now (a.at + a.i) a.i l.j (omega arith)))
 
-same_length : tie.Need-same-length invariant-loop decreases-loop
+same_length : tie.Need-shape_of-out invariant-loop decreases-loop
 same_length c =
     let a = c.before.before.args in
-    let l = c.before.loop in
+    let l = c.before.loop-j in
     puts-length l.out a.out.now [] (take l.j (drop a.i a.text.now)) (a.at + a.i) l.invariant.1
 
 returns : tie.Need-returns invariant-loop decreases-loop
 returns c =
     let a = c.before.before.args in
-    let l = c.before.loop in
+    let l = c.before.loop-j in
     let e : l.j ≡ a.n = omega arith in
     (refl, l.invariant.1 ∙ ap (λ (k : ℕ). sets a.out.now (a.at + a.i) (take k (drop a.i a.text.now))) e)
 
-pub put-block-spec : {M : Type 1} → statement M
-put-block-spec =
+pub put_block_spec : {M : Type 1} → statement M
+put_block_spec =
     tie.close
     (tie.spec
     invariant-loop decreases-loop loop-holds (λ c. omega arith) (λ c. omega arith) (λ c. omega arith) (λ c. omega arith)

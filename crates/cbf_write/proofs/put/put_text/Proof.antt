@@ -10,41 +10,41 @@ use Rattle.cbf_write.proofs.PutLaws.{puts-length, sets-take}
 use Rattle.cbf_write.proofs.put.put_text.Statement.{statement}
 use Rattle.cbf_write.proofs.put.put_text.Tie as tie
 
-abbrev invariant-loop : tie.invariant-loop
+abbrev invariant-loop : tie.invariant-loop-i
 invariant-loop out₀ at text i₀ out i = (i ≤ length text) × (out ≡ sets out₀ at (take i text))
 
-abbrev decreases-loop : tie.decreases-loop
+abbrev decreases-loop : tie.decreases-loop-i
 decreases-loop out₀ at text i₀ out i = length text - i
 
-loop-holds : tie.Need-loop-init invariant-loop decreases-loop
+loop-holds : tie.Need-loop-i-init invariant-loop decreases-loop
 loop-holds c = (omega arith, refl)
 
-slice-write-out : tie.Need-slice-write-out invariant-loop decreases-loop
+slice-write-out : tie.Need-bounds-out-at invariant-loop decreases-loop
 slice-write-out c =
     let a = c.before.before.before.args in
-    let l = c.before.before.loop in
+    let l = c.before.before.loop-i in
     omega (arith, puts-length l.out a.out.now [] (take l.i a.text.now) a.at l.invariant.1)
 
-loop-again : tie.Need-loop-preserved invariant-loop decreases-loop
+loop-again : tie.Need-loop-i-preserved invariant-loop decreases-loop
 loop-again c =
     let a = c.before.before.before.args in
-    let l = c.before.before.loop in
-    (omega arith, rw (l.invariant.1, add-one) (sets-take a.out.now a.text.now a.at l.i c.before.loop-test.true))
+    let l = c.before.before.loop-i in
+    (omega arith, rw (l.invariant.1, add-one) (sets-take a.out.now a.text.now a.at l.i c.before.loop-i-test.true))
 
-same_length : tie.Need-same-length invariant-loop decreases-loop
+same_length : tie.Need-shape_of-out invariant-loop decreases-loop
 same_length c =
     let a = c.before.before.args in
-    let l = c.before.loop in
+    let l = c.before.loop-i in
     puts-length l.out a.out.now [] (take l.i a.text.now) a.at l.invariant.1
 
 returns : tie.Need-returns invariant-loop decreases-loop
 returns c =
     let a = c.before.before.args in
-    let l = c.before.loop in
-    (omega arith, l.invariant.1 ∙ ap (λ (t : List ℕ). sets a.out.now a.at t) (take_all l.i a.text.now c.loop-test.false))
+    let l = c.before.loop-i in
+    (omega arith, l.invariant.1 ∙ ap (λ (t : List ℕ). sets a.out.now a.at t) (take_all l.i a.text.now c.loop-i-test.false))
 
-pub put-text-spec : {M : Type 1} → statement M
-put-text-spec =
+pub put_text_spec : {M : Type 1} → statement M
+put_text_spec =
     tie.close
     (tie.spec
     invariant-loop decreases-loop loop-holds (λ c. omega arith) (λ c. omega arith) slice-write-out (λ c. omega arith)
