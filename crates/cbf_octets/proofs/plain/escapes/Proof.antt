@@ -9,6 +9,7 @@ use mathlib.Core.Path.{◌≡◌, sym, ◌∙◌}
 use native.Mathlib.Omega.{arith}
 use Prim.Native.Nat.{ℕ, ◌+◌, ◌-◌, ◌≤◌}
 use Rattle.cbf_octets.proofs.plain.escapes.Statement.{statement}
+use Rattle.cbf_octets.proofs.plain.escapes.Lts.{then-octets-i, else-octets-i}
 use Rattle.cbf_octets.proofs.plain.escapes.Tie as tie
 
 abbrev invariant-loop : tie.invariant-loop-j
@@ -23,11 +24,12 @@ loop-holds c = (omega arith, λ e j h. let y : ⊥ = omega arith in absurd y)
 loop-again : tie.Need-loop-j-preserved invariant-loop decreases-loop
 loop-again c = (
   omega arith,
-  ⊎_elim (λ w e. let z : ◌≡◌ {A = ℕ} 0 1 = cc in let y : ⊥ = omega arith in absurd y)
-      (λ w e. below_more (λ (m : ℕ). get_or c.before.before.before.before.args.octets.now
+  elim c.if-octets-i.branch [
+    then-octets-i w ↦ λ e. let z : ◌≡◌ {A = ℕ} 0 1 = cc in let y : ⊥ = omega arith in absurd y
+  | else-octets-i w ↦ λ e. below_more (λ (m : ℕ). get_or c.before.before.before.before.args.octets.now
       (c.before.before.before.before.args.i + m) 0 ≡ 128 → ⊥) c.before.before.before.loop-j.j
-      (c.before.before.before.loop-j.invariant.1 (sym w.1 ∙ e)) w.0.left)
-      c.if-octets-i.branch,
+      (c.before.before.before.loop-j.invariant.1 (sym w.found-is ∙ e)) w.if-octets-i.false
+  ],
 )
 
 returns : tie.Need-returns invariant-loop decreases-loop
