@@ -271,11 +271,11 @@ abbrev pub held : ℤ → ℤ
 held z = to_z w64 (of_z w64 z)
 
 small-held : {r : ℤ} (z : ℤ) → mag z < 2 ^ 33 → r ≡ z → held r ≡ z
-small-held z h e = ap held e ∙ to_z-of_z (record { sfits = omega arith })
+small-held z h e = ap held e ∙ to_z-of_z {w = w64} (record { sfits = omega arith })
 
 module _ {lo hi last : ℤ} (f : SFits w64 lo) (g : SFits w64 hi) (h : SFits w64 last) where
   as-held : (X : ℤ → ℤ → ℤ → Type 0) → X lo hi last → X (held lo) (held hi) (held last)
-  as-held X x = rw (to_z-of_z f, to_z-of_z g, to_z-of_z h) x
+  as-held X x = rw (to_z-of_z {w = w64} f, to_z-of_z {w = w64} g, to_z-of_z {w = w64} h) x
 
   pub held-is : {a : ℕ} (xs : List ℤ) → a ≡ size_within (held lo) (held hi) (held last) xs → a ≡ size_within lo hi last xs
   held-is xs e = e ∙ as-held (λ (l u z : ℤ). size_within l u z xs ≡ size_within lo hi last xs) refl

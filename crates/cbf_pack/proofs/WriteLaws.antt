@@ -53,11 +53,11 @@ lifted-bits (negsuc n) size k h e =
 pub lifted-sum : (d : ℤ) (size : ℕ) → SFits w64 d → size ≤ 2 ^ 32 → nat_abs d < size → to_z w64 (of_z w64 d) +ℤ to_z w64 size ≡ pos (lifted d size)
 lifted-sum d size f s h =
     let k : size < 2 ^ 63 = omega arith in
-    ap₂ ◌+ℤ◌ (to_z-of_z f) (to_z_pos w64 k) ∙ lifted-is d size h
+    ap₂ ◌+ℤ◌ (to_z-of_z {w = w64} f) (to_z_pos w64 k) ∙ lifted-is d size h
 
 pub bits-asks : (d : ℤ) (size : ℕ) → SFits w64 d → 0 < size → size ≤ 2 ^ 32 → nat_abs d < size → (0 < size)
     × (size ≤ 2 ^ 32) × (nat_abs (to_z w64 (of_z w64 d)) < size)
-bits-asks d size f p s h = (p, s, subst (λ (z : ℤ). nat_abs z < size) (sym (to_z-of_z f)) h)
+bits-asks d size f p s h = (p, s, subst (λ (z : ℤ). nat_abs z < size) (sym (to_z-of_z {w = w64} f)) h)
 
 -- ---- a difference in its form, written
 
@@ -150,7 +150,7 @@ abbrev pub gap : List ℤ → ℕ → ℕ → ℤ
 gap ps i word = to_z w64 (of_z w64 (get_or ps i (pos 0))) -ℤ to_z w64 word
 
 pub small_word : (z : ℤ) → Small z → to_z w64 (of_z w64 z) ≡ z
-small_word z h = let m = mag-le z in to_z-of_z (record { sfits = omega arith })
+small_word z h = let m = mag-le z in to_z-of_z {w = w64} (record { sfits = omega arith })
 
 module _ (word : ℕ) {ps : List ℤ} {i : ℕ} {out : List ℕ} {at : ℕ} (w : Writable ps i 1 (to_z w64 word) out at) where
   pub gap_is : gap ps i word ≡ get_or ps i (pos 0) -ℤ to_z w64 word
@@ -164,7 +164,7 @@ module _ (word : ℕ) {ps : List ℤ} {i : ℕ} {out : List ℕ} {at : ℕ} (w :
       record { sfits = subst (λ (y : ℤ). mag y < 2 ^ 63) (sym gap_is) (omega arith) }
 
   pub gap_word : to_z w64 (of_z w64 (gap ps i word)) ≡ get_or ps i (pos 0) -ℤ to_z w64 word
-  gap_word = to_z-of_z gap-fits ∙ gap_is
+  gap_word = to_z-of_z {w = w64} gap-fits ∙ gap_is
 
   gap-octets : pack_from (to_z w64 word) (part ps i 1) ≡ pack_difference (to_z w64 (of_z w64 (gap ps i word)))
   gap-octets = pack_one (to_z w64 word) ps i (omega (arith, w.pixels)) ∙ ap pack_difference (sym gap_word)

@@ -16,10 +16,10 @@ use Rattle.cbf_pixels.specs.Pixels.{widths, pack_by, pack_difference}
 
 -- the bounds of a difference that a test gave
 pub narrow-true : (d : ℤ) (half : ℕ) (b : Bool) → SFits w64 d → b ≡ ltb (nat_abs (to_z w64 (of_z w64 d))) half → b ≡ true → nat_abs d < half
-narrow-true d half b f e t = ltb-true (nat_abs d) half (ap (λ (z : ℤ). ltb (nat_abs z) half) (sym (to_z-of_z f)) ∙ sym e ∙ t)
+narrow-true d half b f e t = ltb-true (nat_abs d) half (ap (λ (z : ℤ). ltb (nat_abs z) half) (sym (to_z-of_z {w = w64} f)) ∙ sym e ∙ t)
 
 pub narrow-false : (d : ℤ) (half : ℕ) (b : Bool) → SFits w64 d → b ≡ ltb (nat_abs (to_z w64 (of_z w64 d))) half → b ≡ false → half ≤ nat_abs d
-narrow-false d half b f e t = ltb-false (nat_abs d) half (ap (λ (z : ℤ). ltb (nat_abs z) half) (sym (to_z-of_z f)) ∙ sym e ∙ t)
+narrow-false d half b f e t = ltb-false (nat_abs d) half (ap (λ (z : ℤ). ltb (nat_abs z) half) (sym (to_z-of_z {w = w64} f)) ∙ sym e ∙ t)
 
 -- ---- the octets xs of d, of which there are n
 

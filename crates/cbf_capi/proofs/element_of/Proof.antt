@@ -6,41 +6,40 @@ use Rattle.cbf_capi.proofs.element_of.Tie as tie
 
 returns : tie.Need-returns-in-1
 unfolding element
-returns c = ap element (sym c.in_default.keys1)
+returns c = ap element (sym c.in-1.is)
 
 returns-2 : tie.Need-returns-in-2
 unfolding element
-returns-2 c = ap element (sym c.in_default.keys2)
+returns-2 c = ap element (sym c.in-2.is)
 
 returns-3 : tie.Need-returns-in-3
 unfolding element
-returns-3 c = ap element (sym c.in_default.keys3)
+returns-3 c = ap element (sym c.in-3.is)
 
 returns-4 : tie.Need-returns-in-4
 unfolding element
-returns-4 c = ap element (sym c.in_default.keys4)
+returns-4 c = ap element (sym c.in-4.is)
 
 returns-5 : tie.Need-returns-in-5
 unfolding element
-returns-5 c = ap element (sym c.in_default.keys5)
+returns-5 c = ap element (sym c.in-5.is)
 
 returns-6 : tie.Need-returns-in-6
 unfolding element
-returns-6 c = ap element (sym c.in_default.keys6)
+returns-6 c = ap element (sym c.in-6.is)
 
 returns-7 : tie.Need-returns-in_default
 unfolding element
 returns-7 c =
-    let n = c.before.args.number in
-    let r = c.in_default.rest in
+    let n = c.args.number in
     rw (
-      ne_eqb n 1 r.0.0.0.0.0.1,
-      ne_eqb n 2 r.0.0.0.0.1,
-      ne_eqb n 3 r.0.0.0.1,
+      ne_eqb n 1 c.in_default.rest.0.0.0.0.0.1,
+      ne_eqb n 2 c.in_default.rest.0.0.0.0.1,
+      ne_eqb n 3 c.in_default.rest.0.0.0.1,
       ne_eqb n 4
-          r.0.0.1,
-      ne_eqb n 5 r.0.1,
-      ne_eqb n 6 r.1,
+          c.in_default.rest.0.0.1,
+      ne_eqb n 5 c.in_default.rest.0.1,
+      ne_eqb n 6 c.in_default.rest.1,
     )
 
 pub element_of_spec : {M : Type 1} → statement M

@@ -8,11 +8,11 @@ use Rattle.cbf_capi.proofs.mel_listing.Statement.{statement}
 use Rattle.cbf_capi.proofs.mel_listing.Tie as tie
 
 answer-of-requires : tie.Need-answer_of-requires
-answer-of-requires c κs = let a = c.before.before.before.before.before.before.args in rw
-    c.before.before.list.ensures.0 (list-fits _ a.file.now (length a.out.now) (omega arith))
+answer-of-requires c κs = let a = c.args in rw
+    c.list.ensures.0 (list-fits _ a.file.now (length a.out.now) (omega arith))
 
 returns : tie.Need-returns
-returns c = let E = c.before.before.before.list.ensures in (c.answer_of.ensures ∙ ap returned E.0, E.1)
+returns c = let E = c.list.ensures in (c.answer_of.ensures ∙ ap returned E.0, E.1)
 
 pub mel_listing_spec : {M : Type 1} → statement M
 mel_listing_spec = tie.close (tie.spec (λ c κs. search rules) answer-of-requires (λ c. search rules) returns)

@@ -8,31 +8,31 @@ use Rattle.cbf_capi.proofs.mel_octets.Tie as tie
 
 cast-t8 : tie.Need-overflow_cast-result
 cast-t8 c =
-    let a = c.before.before.before.before.before.before.args in
+    let a = c.args in
     record {
       fits = place-fits _ a.file.now a.section
-          (ap place_of (sym c.before.before.place-1.given.1) ∙ c.before.before.before.before.octets_at-place.ensures);
+          (ap place_of (sym c.in-Refused.is) ∙ c.octets_at-place.ensures);
     }
 
 cast-t9 : tie.Need-overflow_cast-result-in-At
 cast-t9 c =
-    let a = c.before.before.before.before.before.args in
+    let a = c.args in
     record {
       fits = place-fits _ a.file.now a.section
-          (ap place_of (sym c.before.place-in-At-1.given.1) ∙ c.before.before.before.octets_at-place.ensures);
+          (ap place_of (sym c.in-At.is) ∙ c.octets_at-place.ensures);
     }
 
 returns : tie.Need-returns-in-Refused
 returns c =
-    let a = c.before.before.before.before.before.before.args in
+    let a = c.args in
     octets-say _ a.file.now a.section
-    (ap place_of (sym c.before.before.place-1.given.1) ∙ c.before.before.before.before.octets_at-place.ensures)
+    (ap place_of (sym c.in-Refused.is) ∙ c.octets_at-place.ensures)
 
 returns-2 : tie.Need-returns-in-At
 returns-2 c =
-    let a = c.before.before.before.before.before.args in
+    let a = c.args in
     octets-say _ a.file.now a.section
-    (ap place_of (sym c.before.place-in-At-1.given.1) ∙ c.before.before.before.octets_at-place.ensures)
+    (ap place_of (sym c.in-At.is) ∙ c.octets_at-place.ensures)
 
 pub mel_octets_spec : {M : Type 1} → statement M
 mel_octets_spec =

@@ -6,24 +6,24 @@ use Rattle.cbf_capi.proofs.mel_pack.Statement.{statement}
 use Rattle.cbf_capi.proofs.mel_pack.Tie as tie
 
 answer-of-requires : tie.Need-answer_of-requires
-answer-of-requires c κs = let a = c.before.before.before.before.before.before.before.before.before.args in rw
-    c.before.before.pack.ensures.0 (pack-fits _ a.pixels.now (length a.out.now))
+answer-of-requires c κs = let a = c.args in rw
+    c.pack.ensures.0 (pack-fits _ a.pixels.now (length a.out.now))
 
 returns : tie.Need-returns-in-Unknown
 unfolding PackSays
 returns c =
-    let a = c.before.before.before.before.before.args in
-    pack-unknown _ a.pixels.now a.out.now _ c.refused.ensures (sym c.before.enum_told-1.given.1
-    ∙ c.before.before.before.element_of-known.ensures)
+    let a = c.args in
+    pack-unknown _ a.pixels.now a.out.now _ c.refused.ensures (sym c.in-Unknown.is
+    ∙ c.element_of-known.ensures)
 
 returns-2 : tie.Need-returns-in-Known
 unfolding PackSays
 returns-2 c =
-    let a = c.before.before.before.before.before.before.before.before.before.before.args in
-    let E = c.before.before.before.pack.ensures in
+    let a = c.args in
+    let E = c.pack.ensures in
     pack-known _ a.pixels.now a.out.now _
-    (sym c.before.before.before.before.before.before.known-1.given.1
-    ∙ c.before.before.before.before.before.before.before.before.element_of-known.ensures) _ _ _
+    (sym c.in-Known.is
+    ∙ c.element_of-known.ensures) _ _ _
     c.answer_of.ensures E.0 E.1
 
 pub mel_pack_spec : {M : Type 1} → statement M

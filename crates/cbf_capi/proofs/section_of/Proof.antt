@@ -22,16 +22,16 @@ cast-t16 c =
 sub-t17 : tie.Need-overflow_sub-result
 sub-t17 c =
     let s = c.before.before.before.before.before.before.before.before.before.before.before.before in
-    s.before.requires.name_low
+    s.requires.name_low
 
 cast-t18 : tie.Need-overflow_cast-result-11
 cast-t18 c =
     let s = c.before.before.before.before.before.before.before.before.before.before.before.before in
-    record { fits = omega (arith, s.before.requires.name_high) }
+    record { fits = omega (arith, s.requires.name_high) }
 
 returns : tie.Need-returns
 returns c =
-    rw (c.before.before.compression_number.ensures, c.before.type_number.ensures, c.encoding_number.ensures)
+    rw (c.compression_number.ensures, c.type_number.ensures, c.encoding_number.ensures)
 
 pub section_of_spec : {M : Type 1} → statement M
 section_of_spec =

@@ -7,7 +7,7 @@ use Rattle.cbf_list.proofs.print.Statement.{statement}
 use Rattle.cbf_list.proofs.print.Tie as tie
 
 slice-aggregate-write-all : tie.Need-slice_bounds-write_all-end
-slice-aggregate-write-all c = sym (length-take-le _ c.before.before.before.before.before.before.args.out.now (omega arith))
+slice-aggregate-write-all c = sym (length-take-le _ c.args.out.now (omega arith))
 
 pub print_spec : {M : Type 1} → statement M
 print_spec =

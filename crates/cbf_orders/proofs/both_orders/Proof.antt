@@ -9,7 +9,7 @@ returns : tie.Need-returns
 returns c =
     let t = c.before.before.before.before in
     let s = t.before.before.before.before.before.before.before in
-    let a = s.before.before.before.before.before.before.before.before.args in
+    let a = s.args in
     let x = s.one_order-ij.ensures in
     let y = t.one_order-ji.ensures in
     ((x, y), λ h. demand-3 a.file.now (edit a.i a.f.now) (edit a.j a.g.now) h x y)

@@ -18,31 +18,31 @@ start m = m.before.before.before.before.before
 said : (m : tie.After-replace-first) {x : Outcome} → outcome m.replace-first.result ≡ x
     → let a = (start m).args in
     Replaces a.file.now (edit a.i a.f.now)
-    (record { answer = x; before = a.oi.now; after = m.replace-first.new.1.1.1.1.0 })
+    (record { answer = x; before = a.oi.now; after = m.replace-first.new.out })
 said m e =
     let a = (start m).args in
     replaces a.file.now a.i a.f.now a.oi.now (sym e ∙ m.replace-first.ensures.value.0) m.replace-first.ensures.value.1
 
 -- it gave a file
-given : (b : tie.In-Length-2)
-    → let m = b.before.before.before.before in b.first-in-Length-1.given.0.0 ≤ length m.replace-first.new.1.1.1.1.0
+given : (b : tie.In-Length)
+    → let m = b.before.before.before.before in b.in-Length.n ≤ length m.replace-first.new.out
 given b =
     let m = b.before.before.before.before in
     let a = (start m).args in
     let fits = given-fits a.file.now a.i a.f.now a.oi.now m.replace-first.ensures.value.0
-    b.first-in-Length-1.given.0.0 (ap outcome b.first-in-Length-1.given.1) in
+    b.in-Length.n (ap outcome b.in-Length.is) in
     omega (arith, fits, m.replace-first.auto.1.1.1.1.0)
 
 slice-reshare-prefix-replace : tie.Need-slice_bounds-replace-end
-slice-reshare-prefix-replace c = given c.before
+slice-reshare-prefix-replace c = given c
 
 slice-aggregate-replace : tie.Need-slice_bounds-replace-end-in-Length
-slice-aggregate-replace c = let b = c.before.before in sym (length-take-le b.first-in-Length-1.given.0.0 _ (given b))
+slice-aggregate-replace c = let b = c in sym (length-take-le b.in-Length.n _ (given b))
 
 returns : tie.Need-returns-in-Refused
 returns c =
     record {
-      first = said c.before.before.before.before.before (ap outcome c.before.first-1.given.1);
+      first = said c.before.before.before.before.before (ap outcome c.in-Refused.is);
       second = (refl, refl);
     }
 
@@ -53,7 +53,7 @@ returns-2 c =
     let m = b.before.before.before.before in
     let a = (start m).args in
     let second = replaces _ a.j a.g.now a.oij.now u.replace-second.ensures.value.0 u.replace-second.ensures.value.1 in
-    record { first = said m (ap outcome b.first-in-Length-1.given.1); second = (outcome u.replace-second.result, refl, second) }
+    record { first = said m (ap outcome b.in-Length.is); second = (outcome u.replace-second.result, refl, second) }
 
 pub one_order_spec : {M : Type 1} → statement M
 one_order_spec =

@@ -8,39 +8,39 @@ use Rattle.cbf_base64.proofs.base64.groups_hold.Statement.{statement}
 use Rattle.cbf_base64.proofs.base64.groups_hold.Tie as tie
 
 returns : tie.Need-returns-then-g
-returns c = sym (not-broken c.before.args.g c.before.args.size c.if-g.true)
+returns c = sym (not-broken c.args.g c.args.size c.if-g.true)
 
 returns-2 : tie.Need-returns-then-g-ne0
-returns-2 c = sym (not-part c.before.before.before.args.g c.before.before.before.args.size c.if-g-ne0.true)
+returns-2 c = sym (not-part c.args.g c.args.size c.if-g-ne0.true)
 
 returns-3 : tie.Need-returns-then-g-size
-returns-3 c = sym (not-sized c.before.before.before.before.before.args.g c.before.before.before.before.before.args.size c.if-g-size.true)
+returns-3 c = sym (not-sized c.args.g c.args.size c.if-g-size.true)
 
 returns-4 : tie.Need-returns-then-g-eq0
-returns-4 c = sym (held c.before.before.before.before.before.before.before.args.g
-    c.before.before.before.before.before.before.before.args.size
-    c.before.before.before.before.before.before.if-g.false c.before.before.before.before.if-g-ne0.false
-    c.before.before.if-g-size.false
-    ∙ unused-0 c.before.before.before.before.before.before.before.args.g.pads
-    c.before.before.before.before.before.before.before.args.g.last c.if-g-eq0.true)
+returns-4 c = sym (held c.args.g
+    c.args.size
+    c.if-g.false c.if-g-ne0.false
+    c.if-g-size.false
+    ∙ unused-0 c.args.g.pads
+    c.args.g.last c.if-g-eq0.true)
 
 returns-5 : tie.Need-returns-then-g-eq1
-returns-5 c = sym (held c.before.before.before.before.before.before.before.before.before.before.args.g
-    c.before.before.before.before.before.before.before.before.before.before.args.size
-    c.before.before.before.before.before.before.before.before.before.if-g.false
-    c.before.before.before.before.before.before.before.if-g-ne0.false
-    c.before.before.before.before.before.if-g-size.false
-    ∙ unused-1 c.before.before.before.before.before.before.before.before.before.before.args.g.pads
-    c.before.before.before.before.before.before.before.before.before.before.args.g.last
-    c.before.if-g-eq1.true)
+returns-5 c = sym (held c.args.g
+    c.args.size
+    c.if-g.false
+    c.if-g-ne0.false
+    c.if-g-size.false
+    ∙ unused-1 c.args.g.pads
+    c.args.g.last
+    c.if-g-eq1.true)
 
 returns-6 : tie.Need-returns-then-g-eq2
-returns-6 c = sym (held c.before.before.before.before.before.before.before.before.before.before.before.before.args.g c.before.before.before.before.before.before.before.before.before.before.before.before.args.size c.before.before.before.before.before.before.before.before.before.before.before.if-g.false c.before.before.before.before.before.before.before.before.before.if-g-ne0.false
-    c.before.before.before.before.before.before.before.if-g-size.false
-    ∙ unused-2 c.before.before.before.before.before.before.before.before.before.before.before.before.args.g.pads c.before.before.before.before.before.before.before.before.before.before.before.before.args.g.last c.before.if-g-eq2.true)
+returns-6 c = sym (held c.args.g c.args.size c.if-g.false c.if-g-ne0.false
+    c.if-g-size.false
+    ∙ unused-2 c.args.g.pads c.args.g.last c.if-g-eq2.true)
 
 returns-7 : tie.Need-returns
-returns-7 c = sym (not-padded c.before.before.before.before.before.before.before.before.before.before.before.args.g c.before.before.before.before.before.before.before.before.before.before.before.args.size (omega arith))
+returns-7 c = sym (not-padded c.args.g c.args.size (omega arith))
 
 pub groups_hold_spec : {M : Type 1} → statement M
 groups_hold_spec =

@@ -45,54 +45,54 @@ other x n upper lower digit =
 
 returns : tie.Need-returns-in-43
 unfolding symbol
-returns c = rw c.in_default-1.keys1
+returns c = rw c.in-43.is
 
 returns-2 : tie.Need-returns-in-47
 unfolding symbol
-returns-2 c = rw c.in_default-1.keys2
+returns-2 c = rw c.in-47.is
 
 returns-3 : tie.Need-returns-in-61
 unfolding symbol
-returns-3 c = rw c.in_default-1.keys3
+returns-3 c = rw c.in-61.is
 
 returns-4 : tie.Need-returns-in-9
 unfolding symbol
-returns-4 c = ⊎_elim (λ e. rw e) (λ e. rw e) c.in_default-1.keys4
+returns-4 c = ⊎_elim (λ e. rw e) (λ e. rw e) c.in-9.is
 
 returns-5 : tie.Need-returns-in-48-to-57
 unfolding symbol
 returns-5 c =
-    let x = c.before.before.before.args.b in
-    let n : x ≡ 47 → ⊥ = c.before.before.in_default-1.rest.0.0.1 in
+    let x = c.args.b in
+    let n : x ≡ 47 → ⊥ = c.in_default-1.rest.0.0.1 in
     rw (outside 65 90 x (λ h l. omega arith), outside 97 122 x (λ h l. omega arith), within 48 57 x (omega arith) (omega arith))
 
 returns-6 : tie.Need-returns-in-65-to-90
 unfolding symbol
-returns-6 c = rw (within 65 90 c.before.before.before.before.before.args.b (omega arith) (omega arith))
+returns-6 c = rw (within 65 90 c.args.b (omega arith) (omega arith))
 
 returns-7 : tie.Need-returns-in-97-to-122
 unfolding symbol
 returns-7 c =
-    let x = c.before.before.before.before.before.before.before.args.b in
+    let x = c.args.b in
     rw (outside 65 90 x (λ h l. omega arith), within 97 122 x (omega arith) (omega arith))
 
 returns-8 : tie.Need-returns-in_default
-returns-8 c = other c.before.before.args.b c.before.in_default-1.rest (λ h l. omega arith) (λ h l. omega arith) (λ h l. omega arith)
+returns-8 c = other c.args.b c.in_default-1.rest (λ h l. omega arith) (λ h l. omega arith) (λ h l. omega arith)
 
 returns-9 : tie.Need-returns-in_default-2
 returns-9 c =
-    other c.before.before.before.before.args.b c.before.before.before.in_default-1.rest (λ h l. omega arith) (λ h l. omega arith) (λ h l. omega arith)
+    other c.args.b c.in_default-1.rest (λ h l. omega arith) (λ h l. omega arith) (λ h l. omega arith)
 
 returns-10 : tie.Need-returns-in_default-3
 returns-10 c =
-    other c.before.before.before.before.before.before.args.b
-    c.before.before.before.before.before.in_default-1.rest (λ h l. omega arith) (λ h l. omega arith)
+    other c.args.b
+    c.in_default-1.rest (λ h l. omega arith) (λ h l. omega arith)
     (λ h l. omega arith)
 
 returns-11 : tie.Need-returns-in_default-4
 returns-11 c =
-    other c.before.before.before.before.before.before.before.args.b
-    c.before.before.before.before.before.before.in_default-1.rest (λ h l. omega arith) (λ h l. omega arith)
+    other c.args.b
+    c.in_default-1.rest (λ h l. omega arith) (λ h l. omega arith)
     (λ h l. omega arith)
 
 pub symbol_spec : {M : Type 1} → statement M

@@ -48,11 +48,11 @@ decreases-loop file from to run h₀ i₀ h i = to - i
 
 -- where the arms meet: the letters in front are added, or there are none
 module _ (c : tie.Joined-from-run invariant-loop decreases-loop) where
-  few : c.if-from-run.h.letters + c.if-from-run.h.pads ≤ c.before.after_blocks-run.result
+  few : c.if-from-run.h.letters + c.if-from-run.h.pads ≤ c.after_blocks-run.result
   few =
-      let a = c.before.before.before.args in
-      let m = c.before.after_blocks-run.result in
-      let run = c.before.after_blocks-run.ensures.1 in
+      let a = c.args in
+      let m = c.after_blocks-run.result in
+      let run = c.after_blocks-run.ensures.1 in
       ⊎_elim
       (λ w. let t = w.0.taken in rw (w.3 ∙ w.2.ensures) (omega (
         arith,
@@ -60,54 +60,54 @@ module _ (c : tie.Joined-from-run invariant-loop decreases-loop) where
             (symbol (get_or a.file.now (m - 1) 0)) (run.each (m - 1) (omega arith) (omega arith)),
       )))
       (λ w. rw w.1 (omega arith))
-      c.if-from-run.branch
+      c.if-from-run.branch-raw
 
-  in-front : let a = c.before.before.before.args in let m = c.before.after_blocks-run.result in (j : ℕ) → m ≤ j → j ≤ length a.file.now
+  in-front : let a = c.args in let m = c.after_blocks-run.result in (j : ℕ) → m ≤ j → j ≤ length a.file.now
       → bytes_from c.if-from-run.h (slice m j a.file.now) ≡ bytes_from a.g (slice a.from j a.file.now)
   in-front j h k =
-      let a = c.before.before.before.args in
-      let m = c.before.after_blocks-run.result in
-      let run = c.before.after_blocks-run.ensures.1 in
+      let a = c.args in
+      let m = c.after_blocks-run.result in
+      let run = c.after_blocks-run.ensures.1 in
       ⊎_elim
       (λ w. ap (λ (g : Groups). bytes_from g (slice m j a.file.now)) (w.3 ∙ w.2.ensures) ∙ letters-run run a.g j w.0.taken h k)
       (λ w. let l = w.0.left in let low = run.low in let e : m ≡ a.from = omega arith in ap
       (λ (g : Groups). bytes_from g (slice m j a.file.now)) w.1
       ∙ ap (λ (i : ℕ). bytes_from a.g (slice i j a.file.now)) e)
-      c.if-from-run.branch
+      c.if-from-run.branch-raw
 
 loop-holds : tie.Need-loop-i-init invariant-loop decreases-loop
-loop-holds c = (omega arith, few c, run-symbolic c.before.after_blocks-run.ensures.1, (λ j h k. refl), omega arith)
+loop-holds c = (omega arith, few c, run-symbolic c.after_blocks-run.ensures.1, (λ j h k. refl), omega arith)
 
 -- at the loop's head: the symbols up to i, where the text ends or has another byte there
-so_far : (c : tie.At-loop-i invariant-loop decreases-loop) → let a = c.before.before.before.before.args in let l = c.loop-i in
+so_far : (c : tie.At-loop-i invariant-loop decreases-loop) → let a = c.args in let l = c.loop-i in
     (l.i < a.to → symbolic (get_or a.file.now l.i 0) ≡ false)
     → SymbolsTo a.file.now a.from a.to a.g (record { groups = l.h; to = l.i })
 so_far c stop =
     let l = c.loop-i in
     record {
       run = run-stop l.invariant.2 l.invariant.0 stop;
-      added = sym (bytes-end l.h c.before.before.before.before.args.file.now l.i) ∙ l.invariant.3 l.i
+      added = sym (bytes-end l.h c.args.file.now l.i) ∙ l.invariant.3 l.i
           (omega arith) l.invariant.0 ∙ in-front c.before l.i l.invariant.4 (omega arith);
       most = l.invariant.1;
     }
 
 returns : tie.Need-returns-in-Other invariant-loop decreases-loop
 returns c =
-    so_far c.before.before.before.before.before (λ h. byte-other _ c.before.before.symbol-s.result
-    c.before.before.symbol-s.ensures c.enum_told-1.given.1)
+    so_far c.before.before.before.before.before (λ h. byte-other _ c.symbol-s.result
+    c.symbol-s.ensures c.in-Other.is)
 
 loop-again : tie.Need-loop-i-preserved invariant-loop decreases-loop
 loop-again c =
-    let a = c.before.before.before.before.before.before.before.before.before.args in
-    let l = c.before.before.before.before.before.loop-i in
+    let a = c.args in
+    let l = c.loop-i in
     let file = a.file.now in
     let x = get_or file l.i 0 in
     let s = symbol x in
-    let e : c.with_symbol-h.result ≡ add_symbol_to l.h s = c.with_symbol-h.ensures ∙ ap (add_symbol_to l.h) c.before.before.symbol-s.ensures in (
+    let e : c.with_symbol-h.result ≡ add_symbol_to l.h s = c.with_symbol-h.ensures ∙ ap (add_symbol_to l.h) c.symbol-s.ensures in (
       omega arith,
       rw e (omega (arith, symbol-count l.h s)),
-      run-next l.invariant.2 (byte-known x c.before.before.symbol-s.result c.before.before.symbol-s.ensures
-          (known c.before.before.symbol-s.result c.before.in_default.keys2)),
+      run-next l.invariant.2 (byte-known x c.symbol-s.result c.symbol-s.ensures
+          (known c.symbol-s.result c.in_default.keys2)),
       (λ j h k. ap (λ (g : Groups). bytes_from g (slice (l.i + 1) j file)) e ∙ sym (bytes_next l.h file l.i j
           (omega arith) (omega arith)) ∙ l.invariant.3 j (omega arith) k),
       omega arith,

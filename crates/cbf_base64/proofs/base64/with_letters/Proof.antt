@@ -9,9 +9,9 @@ use Rattle.cbf_base64.proofs.base64.with_letters.Tie as tie
 
 returns : tie.Need-returns
 returns c =
-    let a = c.before.before.before.args in
+    let a = c.args in
     ap (λ (h : Groups). record { letters = a.g.letters + a.n; pads = h.pads; last = h.last; broken = h.broken })
-    (c.before.with_symbol-h.ensures ∙ ap (add_symbol_to a.g) c.before.before.symbol-s.ensures)
+    (c.with_symbol-h.ensures ∙ ap (add_symbol_to a.g) c.symbol-s.ensures)
 
 pub with_letters_spec : {M : Type 1} → statement M
 with_letters_spec =

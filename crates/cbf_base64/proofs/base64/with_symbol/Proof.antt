@@ -7,19 +7,19 @@ use Rattle.cbf_base64.proofs.base64.with_symbol.Statement.{statement}
 use Rattle.cbf_base64.proofs.base64.with_symbol.Tie as tie
 
 returns : tie.Need-returns-then-g-eq0
-returns c = letter-whole c.before.before.before.before.before.before.args.g
-    c.before.before.before.before.s-1.given.0.0 c.before.if-g-eq0.true
-    ∙ ap (add_symbol_to c.before.before.before.before.before.before.args.g)
-    (sym c.before.before.before.before.s-1.given.1)
+returns c = letter-whole c.args.g
+    c.in-Letter.n c.if-g-eq0.true
+    ∙ ap (add_symbol_to c.args.g)
+    (sym c.in-Letter.is)
 
 returns-2 : tie.Need-returns-else-g-eq0
-returns-2 c = letter-broken c.before.before.before.before.before.before.args.g
-    c.before.before.before.before.s-1.given.0.0 c.before.if-g-eq0.false
-    ∙ ap (add_symbol_to c.before.before.before.before.before.before.args.g)
-    (sym c.before.before.before.before.s-1.given.1)
+returns-2 c = letter-broken c.args.g
+    c.in-Letter.n c.if-g-eq0.false
+    ∙ ap (add_symbol_to c.args.g)
+    (sym c.in-Letter.is)
 
 returns-3 : tie.Need-returns-in-Pad
-returns-3 c = ap (add_symbol_to c.before.before.before.args.g) (sym c.before.enum_told-1.given.1)
+returns-3 c = ap (add_symbol_to c.args.g) (sym c.in-Pad.is)
 
 pub with_symbol_spec : {M : Type 1} → statement M
 with_symbol_spec =

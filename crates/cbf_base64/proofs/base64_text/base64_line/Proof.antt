@@ -12,9 +12,8 @@ use Rattle.cbf_base64.proofs.base64_text.base64_line.Tie as tie
 
 returns : tie.Need-returns-in-At
 returns c =
-    let a = c.before.before.before.before.before.args in
-    let g = c.before.close-1.given in
-    (line-closing a.file.now a.at a.limit a.g g.0.0 (sym g.1 ∙ c.before.before.before.closing_line-close.ensures), omega arith)
+    let a = c.args in
+    (line-closing a.file.now a.at a.limit a.g c.in-At.next (sym c.in-At.is ∙ c.closing_line-close.ensures), omega arith)
 
 text-symbols-requires : tie.Need-text_symbols-s-requires
 text-symbols-requires c κs =
@@ -27,37 +26,36 @@ ended-requires : tie.Need-ended-end-requires
 ended-requires c κs =
     let s = c.before.before.before.before.before.before.before in
     let a = s.args in
-    let q = c.before.before.farthest in
+    let q = c.farthest in
     let f = far a.at a.limit (length a.file.now) q.result q.ensures s.requires.0 in
-    omega (arith, f.high, c.before.text_symbols-s.ensures.run.high)
+    omega (arith, f.high, c.text_symbols-s.ensures.run.high)
 
 shared-slice-read-refused-number : tie.Need-bounds-file-to
 shared-slice-read-refused-number c =
     let s = c.before.before.before.before.before.before.before.before.before.before.before in
     let a = s.args in
-    let q = c.before.before.before.before.before.before.farthest in
+    let q = c.farthest in
     let f = far a.at a.limit (length a.file.now) q.result q.ensures s.requires.0 in
-    let r = c.before.before.before.before.before.text_symbols-s.ensures.run in
-    (ended-not a.file.now c.before.before.before.before.before.text_symbols-s.result.to (omega (arith, f.high, r.high))
-    (sym c.before.enum_told-in-Missing-end-1.given.1 ∙ c.before.before.before.ended-end.ensures)).byte
+    let r = c.text_symbols-s.ensures.run in
+    (ended-not a.file.now c.text_symbols-s.result.to (omega (arith, f.high, r.high))
+    (sym c.in-Missing-end.is ∙ c.ended-end.ensures)).byte
 
 sub-refused-number : tie.Need-overflow_sub-to
-sub-refused-number c = omega (arith, c.before.before.before.before.before.text_symbols-s.ensures.run.low)
+sub-refused-number c = omega (arith, c.text_symbols-s.ensures.run.low)
 
 returns-2 : tie.Need-returns-in-At-end
 returns-2 c =
     let s = c.before.before.before.before.before.before.before.before.before.before.before in
     let a = s.args in
     let file = a.file.now in
-    let q = c.before.before.before.before.before.before.farthest in
+    let q = c.farthest in
     let f = far a.at a.limit (length file) q.result q.ensures s.requires.0 in
-    let t = c.before.before.before.before.before.text_symbols-s in
-    let m = sym c.before.before.before.before.before.before.before.enum_told-1.given.1
-    ∙ c.before.before.before.before.before.before.before.before.before.closing_line-close.ensures in
-    let g = c.before.end-1.given in
-    let e = sym g.1 ∙ c.before.before.before.ended-end.ensures in
+    let t = c.text_symbols-s in
+    let m = sym c.in-Missing.is
+    ∙ c.closing_line-close.ensures in
+    let e = sym c.in-At-end.is ∙ c.ended-end.ensures in
     let v = ended_at_lem file t.result.to (omega (arith, f.high, t.ensures.run.high)) e in (
-      line-symbols file a.at a.limit a.g f t.ensures.run m t.result.groups g.0.0
+      line-symbols file a.at a.limit a.g f t.ensures.run m t.result.groups c.in-At-end.next
           t.ensures.added e,
       omega (arith, v.place, t.ensures.most),
     )
@@ -67,17 +65,17 @@ returns-3 c =
     let s = c.before.before.before.before.before.before.before.before.before.before.before.before in
     let a = s.args in
     let file = a.file.now in
-    let q = c.before.before.before.before.before.before.before.farthest in
+    let q = c.farthest in
     let f = far a.at a.limit (length file) q.result q.ensures s.requires.0 in
-    let t = c.before.before.before.before.before.before.text_symbols-s in
-    let m = sym c.before.before.before.before.before.before.before.before.enum_told-1.given.1
-    ∙ c.before.before.before.before.before.before.before.before.before.before.closing_line-close.ensures in
-    let e = sym c.before.before.enum_told-in-Missing-end-1.given.1 ∙ c.before.before.before.before.ended-end.ensures in
+    let t = c.text_symbols-s in
+    let m = sym c.in-Missing.is
+    ∙ c.closing_line-close.ensures in
+    let e = sym c.in-Missing-end.is ∙ c.ended-end.ensures in
     (line_refused file a.at a.limit a.g f t.ensures.run m e c.refused_number-number.result c.refused_number-number.ensures, omega arith)
 
 pub base64_line_spec : {M : Type 1} → statement M
 base64_line_spec =
-    tie.close-1
+    tie.close
     (tie.spec
     (λ c κs. search rules) (λ c. search rules) returns (λ c. search rules) (λ c κs. search rules)
     text-symbols-requires ended-requires (λ c. search rules) (λ c. search rules)

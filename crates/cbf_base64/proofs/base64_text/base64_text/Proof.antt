@@ -23,53 +23,51 @@ loop-holds c =
     passed_none s.args.file.now s.args.at s.args.limit c.no_groups-g.result c.no_groups-g.ensures s.requires.0 s.requires.1
 
 base64-line-requires : tie.Need-base64_line-l-requires invariant-loop decreases-loop
-base64-line-requires c κs = let l = c.before.loop-next.invariant in (l.high, c.before.before.before.before.requires.1, l.few)
+base64-line-requires c κs = let l = c.loop-next.invariant in (l.high, c.requires.1, l.few)
 
 returns : tie.Need-returns-in-Refused invariant-loop decreases-loop
 returns c =
-    let l = c.before.before.before.before.before.loop-next in
-    let a = c.before.before.before.before.before.before.before.before.args in
-    let g = c.before.l-1.given in (
-      passed-refused a.file.now a.at a.limit l.next l.g l.invariant (omega arith) g.0.0 (sym g.1
-          ∙ c.before.before.before.base64_line-l.ensures.0),
+    let l = c.loop-next in
+    let a = c.args in
+    (
+      passed-refused a.file.now a.at a.limit l.next l.g l.invariant (omega arith) c.in-Refused.r (sym c.in-Refused.is
+          ∙ c.base64_line-l.ensures.0),
       omega arith,
     )
 
 returns-2 : tie.Need-returns-in-Closing invariant-loop decreases-loop
 returns-2 c =
-    let l = c.before.before.before.before.before.loop-next in
+    let l = c.loop-next in
     let s = c.before.before.before.before.before.before.before.before in
     let a = s.args in
-    let g = c.before.l-in-Closing-1.given in (
-      passed-closing a.file.now a.at a.limit l.next l.g l.invariant (omega arith) g.0.0 (sym g.1
-          ∙ c.before.before.before.base64_line-l.ensures.0),
+    (
+      passed-closing a.file.now a.at a.limit l.next l.g l.invariant (omega arith) c.in-Closing.after (sym c.in-Closing.is
+          ∙ c.base64_line-l.ensures.0),
       omega (arith, l.invariant.few, l.invariant.high, s.requires.1),
     )
 
 loop-less : tie.Need-loop-next-smaller invariant-loop decreases-loop
 loop-less c =
-    let l = c.before.before.before.before.before.loop-next in
-    let a = c.before.before.before.before.before.before.before.before.args in
-    let g = c.before.l-in-Text-1.given in
-    let b = c.before.before.before.base64_line-l in
-    let p = passed-text a.file.now a.at a.limit l.next l.g l.invariant (omega arith) g.0.0 g.0.1.0
-    (sym g.1 ∙ b.ensures.0) (subst FewOfLine g.1 b.ensures.1) in
+    let l = c.loop-next in
+    let a = c.args in
+    let b = c.base64_line-l in
+    let p = passed-text a.file.now a.at a.limit l.next l.g l.invariant (omega arith) c.in-Text.h c.in-Text.after
+    (sym c.in-Text.is ∙ b.ensures.0) (subst FewOfLine c.in-Text.is b.ensures.1) in
     omega (arith, p.1, p.0.high)
 
 loop-again : tie.Need-loop-next-preserved invariant-loop decreases-loop
 loop-again c =
-    let l = c.before.before.before.before.before.loop-next in
-    let a = c.before.before.before.before.before.before.before.before.args in
-    let g = c.before.l-in-Text-1.given in
-    let b = c.before.before.before.base64_line-l in
-    let p = passed-text a.file.now a.at a.limit l.next l.g l.invariant (omega arith) g.0.0 g.0.1.0
-    (sym g.1 ∙ b.ensures.0) (subst FewOfLine g.1 b.ensures.1) in
+    let l = c.loop-next in
+    let a = c.args in
+    let b = c.base64_line-l in
+    let p = passed-text a.file.now a.at a.limit l.next l.g l.invariant (omega arith) c.in-Text.h c.in-Text.after
+    (sym c.in-Text.is ∙ b.ensures.0) (subst FewOfLine c.in-Text.is b.ensures.1) in
     p.0
 
 returns-3 : tie.Need-returns invariant-loop decreases-loop
 returns-3 c =
-    let l = c.before.loop-next in
-    let a = c.before.before.before.before.args in
+    let l = c.loop-next in
+    let a = c.args in
     (passed-all a.file.now a.at a.limit l.next l.g l.invariant (omega arith), omega arith)
 
 pub base64_text_spec : {M : Type 1} → statement M

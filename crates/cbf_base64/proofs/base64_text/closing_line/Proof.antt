@@ -14,14 +14,14 @@ returns c = let s = c.before.before in closing-short s.args.file.now s.args.at s
 returns-2 : tie.Need-returns-then-not-is_word
 returns-2 c =
     let s = c.before.before.before.before.before in
-    closing-other s.args.file.now s.args.at s.requires (sym c.before.is_word.ensures ∙ not-true c.before.is_word.result c.if-not-is_word.true)
+    closing-other s.args.file.now s.args.at s.requires (sym c.is_word.ensures ∙ c.if-not-is_word.true)
 
 returns-3 : tie.Need-returns
 returns-3 c =
     let s = c.before.before.before.before.before.before in
-    let w = c.before.before.is_word in
+    let w = c.is_word in
     closing-ended s.args.file.now s.args.at s.requires (s.args.at + 31) refl (omega arith) (sym w.ensures
-    ∙ not-false w.result c.before.if-not-is_word.false) c.ended.result c.ended.ensures
+    ∙ c.if-not-is_word.false) c.ended.result c.ended.ensures
 
 pub closing_line_spec : {M : Type 1} → statement M
 closing_line_spec =

@@ -7,19 +7,19 @@ use Rattle.cbf_base64.proofs.base64_text.refused_number.Statement.{statement}
 use Rattle.cbf_base64.proofs.base64_text.refused_number.Tie as tie
 
 returns : tie.Need-returns-then-not-textual
-returns c = rw (sym c.before.textual.ensures ∙ not-true c.before.textual.result c.if-not-textual.true)
+returns c = rw (sym c.textual.ensures ∙ c.if-not-textual.true)
 
 returns-2 : tie.Need-returns-then-column-limit
 returns-2 c =
-    let a = c.before.before.before.args in
-    let t = c.before.before.textual in
-    rw (sym t.ensures ∙ not-false t.result c.before.if-not-textual.false, lt-ltb a.column a.limit c.if-column-limit.true)
+    let a = c.args in
+    let t = c.textual in
+    rw (sym t.ensures ∙ c.if-not-textual.false, lt-ltb a.column a.limit c.if-column-limit.true)
 
 returns-3 : tie.Need-returns
 returns-3 c =
-    let a = c.before.before.before.args in
-    let t = c.before.before.textual in
-    rw (sym t.ensures ∙ not-false t.result c.before.if-not-textual.false, le-ltb a.column a.limit (omega arith))
+    let a = c.args in
+    let t = c.textual in
+    rw (sym t.ensures ∙ c.if-not-textual.false, le-ltb a.column a.limit (omega arith))
 
 pub refused_number_spec : {M : Type 1} → statement M
 refused_number_spec = tie.close (tie.spec (λ c κs. search rules) returns returns-2 returns-3)

@@ -18,77 +18,77 @@ decreases-loop file limit out₀ writing cursor₀ found₀ out cursor found = l
 
 loop-holds : tie.Need-loop-cursor-init invariant-loop decreases-loop
 loop-holds c =
-    let a = c.before.before.args in
-    let p = c.before.before.requires in
+    let a = c.args in
+    let p = c.requires in
     entered-start a.limit a.file.now a.out.now a.writing a.c p.0 p.2
 
 same_length : tie.Need-shape_of-out-in-Refused invariant-loop decreases-loop
-same_length c = entered-kept c.before.before.before.before.before.before.loop-cursor.invariant
+same_length c = entered-kept c.loop-cursor.invariant
 
 returns : tie.Need-returns-in-Refused invariant-loop decreases-loop
 returns c =
-    entered-refused c.before.before.before.before.before.before.loop-cursor.invariant
-    c.before.before.before.next_section-next.ensures
-    c.before.before.before.before.before.before.before.before.before.requires.3
-    c.before.next-1.given.1
+    entered-refused c.loop-cursor.invariant
+    c.next_section-next.ensures
+    c.requires.3
+    c.in-Refused.is
 
 same-length-2 : tie.Need-shape_of-out-in-End invariant-loop decreases-loop
-same-length-2 c = entered-kept c.before.before.before.before.before.before.loop-cursor.invariant
+same-length-2 c = entered-kept c.loop-cursor.invariant
 
 returns-2 : tie.Need-returns-in-End invariant-loop decreases-loop
 returns-2 c =
-    entered-end c.before.before.before.before.before.before.loop-cursor.invariant
-    c.before.before.before.next_section-next.ensures c.finished.ensures c.before.enum_told-1.given.1
+    entered-end c.loop-cursor.invariant
+    c.next_section-next.ensures c.finished.ensures c.in-End.is
 
 mul-put-entry : tie.Need-overflow_mul-cursor invariant-loop decreases-loop
-mul-put-entry c = omega (arith, c.before.before.before.before.before.before.before.before.before.before.loop-cursor.invariant.here.come.ready.few)
+mul-put-entry c = omega (arith, c.loop-cursor.invariant.here.come.ready.few)
 
 add-put-entry : tie.Need-overflow_add-cursor invariant-loop decreases-loop
-add-put-entry c = omega (arith, c.before.before.before.before.before.before.before.before.before.before.loop-cursor.invariant.here.come.ready.few)
+add-put-entry c = omega (arith, c.loop-cursor.invariant.here.come.ready.few)
 
 put-entry-requires : tie.Need-put_entry-requires invariant-loop decreases-loop
 put-entry-requires c κs =
     let t = c.before.before.before.before.before in
-    entered-room t.before.before.before.before.before.loop-cursor.invariant t.before.before.next_section-next.ensures
-    t.next-in-Found-1.given.1 t.before.before.before.before.before.before.before.before.requires.3
-    c.before.before.if-writing.true
+    entered-room t.loop-cursor.invariant t.next_section-next.ensures
+    t.in-Found.is t.requires.3
+    c.if-writing.true
 
 with-name-requires : tie.Need-with_name-found-requires invariant-loop decreases-loop
 with-name-requires c κs =
     let t = c.before.before.before in
-    entered-block t.before.before.before.before.before.loop-cursor.invariant t.before.before.next_section-next.ensures t.next-in-Found-1.given.1
+    entered-block t.loop-cursor.invariant t.next_section-next.ensures t.in-Found.is
 
 loop-less : tie.Need-loop-cursor-smaller-then-writing invariant-loop decreases-loop
 loop-less c =
     let t = c.before.before.before.before.before.before.before.before in
-    loop-onward t.before.before.before.before.before.loop-cursor.invariant.here
-    t.before.before.next_section-next.ensures t.next-in-Found-1.given.1 t.before.before.before.loop-cursor-test.true
+    loop-onward t.loop-cursor.invariant.here
+    t.next_section-next.ensures t.in-Found.is t.loop-cursor-test.true
 
 loop-again : tie.Need-loop-cursor-preserved-then-writing invariant-loop decreases-loop
 loop-again c =
     let t = c.before.before.before.before.before.before.before.before in
-    entered-written t.before.before.before.before.before.loop-cursor.invariant t.before.before.next_section-next.ensures
-    t.next-in-Found-1.given.1 t.before.before.before.before.before.before.before.before.requires.3
-    c.before.before.before.before.before.if-writing.true c.before.before.put_entry.ensures.1
+    entered-written t.loop-cursor.invariant t.next_section-next.ensures
+    t.in-Found.is t.requires.3
+    c.if-writing.true c.put_entry.ensures.1
 
 loop-less-2 : tie.Need-loop-cursor-smaller invariant-loop decreases-loop
 loop-less-2 c =
     let t = c.before.before.before.before in
-    loop-onward t.before.before.before.before.before.loop-cursor.invariant.here
-    t.before.before.next_section-next.ensures t.next-in-Found-1.given.1 t.before.before.before.loop-cursor-test.true
+    loop-onward t.loop-cursor.invariant.here
+    t.next_section-next.ensures t.in-Found.is t.loop-cursor-test.true
 
 loop-again-2 : tie.Need-loop-cursor-preserved invariant-loop decreases-loop
 loop-again-2 c =
     let t = c.before.before.before.before in
-    entered-counted t.before.before.before.before.before.loop-cursor.invariant t.before.before.next_section-next.ensures
-    t.next-in-Found-1.given.1 c.before.if-writing.false c.with_name-found.ensures
+    entered-counted t.loop-cursor.invariant t.next_section-next.ensures
+    t.in-Found.is c.if-writing.false c.with_name-found.ensures
 
 same-length-3 : tie.Need-shape_of-out invariant-loop decreases-loop
-same-length-3 c = entered-kept c.before.before.before.loop-cursor.invariant
+same-length-3 c = entered-kept c.loop-cursor.invariant
 
 returns-3 : tie.Need-returns invariant-loop decreases-loop
-returns-3 c = entered-past c.before.before.before.loop-cursor.invariant c.finished-2.ensures
-    c.before.before.before.before.before.before.requires.1 c.before.loop-cursor-test.false
+returns-3 c = entered-past c.loop-cursor.invariant c.finished-2.ensures
+    c.requires.1 c.loop-cursor-test.false
 
 pub entries_from_spec : {M : Type 1} → statement M
 entries_from_spec =

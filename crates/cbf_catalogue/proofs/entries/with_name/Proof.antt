@@ -7,17 +7,17 @@ use Rattle.cbf_catalogue.proofs.entries.with_name.Statement.{statement}
 use Rattle.cbf_catalogue.proofs.entries.with_name.Tie as tie
 
 returns : tie.Need-returns-then-block-le-LABEL_WIDTH
-returns c = let a = c.before.before.args in rw (le-leb (a.block.to - a.block.from) label_width c.if-block-le-LABEL_WIDTH.true)
+returns c = let a = c.args in rw (le-leb (a.block.to - a.block.from) label_width c.if-block-le-LABEL_WIDTH.true)
 
 returns-2 : tie.Need-returns-then-found-from
 returns-2 c =
-    let a = c.before.before.before.args in
-    rw (lt-leb (a.block.to - a.block.from) label_width c.before.if-block-le-LABEL_WIDTH.false, lt-ltb a.found a.from c.if-found-from.true)
+    let a = c.args in
+    rw (lt-leb (a.block.to - a.block.from) label_width c.if-block-le-LABEL_WIDTH.false, lt-ltb a.found a.from c.if-found-from.true)
 
 returns-3 : tie.Need-returns-else-found-from
 returns-3 c =
-    let a = c.before.before.before.args in
-    rw (lt-leb (a.block.to - a.block.from) label_width c.before.if-block-le-LABEL_WIDTH.false, le-ltb a.found a.from c.if-found-from.false)
+    let a = c.args in
+    rw (lt-leb (a.block.to - a.block.from) label_width c.if-block-le-LABEL_WIDTH.false, le-ltb a.found a.from c.if-found-from.false)
 
 pub with_name_spec : {M : Type 1} → statement M
 with_name_spec = tie.close (tie.spec (λ c. search rules) returns returns-2 returns-3)

@@ -6,8 +6,8 @@ use Rattle.cbf_catalogue.proofs.entry.kinds.Tie as tie
 
 returns : tie.Need-returns
 returns c =
-    let p = c.before.before.compression_number-low in
-    let q = c.before.type_number-middle in
+    let p = c.compression_number-low in
+    let q = c.type_number-middle in
     let r = c.encoding_number-high in
     rw (← p.ensures, ← q.ensures, ← r.ensures) (octets-three p.result q.result r.result (search rules) (search rules) (search rules))
 

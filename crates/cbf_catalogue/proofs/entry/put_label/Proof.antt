@@ -21,7 +21,7 @@ returns c =
     let name = slice a.from a.to file in
     let part = slice-part file a.from a.to s.requires.0 s.requires.1 in (
       z.put_zeros-end.ensures.0,
-      c.before.before.put_short.ensures
+      c.put_short.ensures
           ∙ ap (λ (l : List ℕ). sets l a.at (take (a.to - a.from) (drop a.from file))) z.put_zeros-end.ensures.1
           ∙ ap (sets (sets a.out.now a.at (zeros label_width)) a.at) (sym part)
           ∙ label-over a.out.now name a.at (omega (arith, length-slice a.from a.to file s.requires.1, s.requires.2)),

@@ -15,16 +15,16 @@ loop-holds : tie.Need-loop-i-init invariant-loop decreases-loop
 loop-holds c = stored-none c.args.out.now c.args.at c.args.k c.args.n
 
 slice-write-out : tie.Need-bounds-out-at invariant-loop decreases-loop
-slice-write-out c = omega (arith, stored-length c.before.loop-i.invariant)
+slice-write-out c = omega (arith, stored-length c.loop-i.invariant)
 
 loop-again : tie.Need-loop-i-preserved invariant-loop decreases-loop
-loop-again c = stored_more c.before.loop-i.invariant c.loop-i-test.true
+loop-again c = stored_more c.loop-i.invariant c.loop-i-test.true
 
 same_length : tie.Need-shape_of-out invariant-loop decreases-loop
-same_length c = stored-length c.before.loop-i.invariant
+same_length c = stored-length c.loop-i.invariant
 
 returns : tie.Need-returns invariant-loop decreases-loop
-returns c = (omega arith, stored-all c.before.loop-i.invariant c.loop-i-test.false)
+returns c = (omega arith, stored-all c.loop-i.invariant c.loop-i-test.false)
 
 pub put_little_spec : {M : Type 1} → statement M
 put_little_spec =

@@ -5,7 +5,7 @@ use Rattle.cbf_catalogue.proofs.little.put_zeros.Statement.{statement}
 use Rattle.cbf_catalogue.proofs.little.put_zeros.Tie as tie
 
 returns : tie.Need-returns
-returns c = let E = c.before.before.put_little.ensures in (E.0, rw zeros-octets E.1)
+returns c = let E = c.put_little.ensures in (E.0, rw zeros-octets E.1)
 
 pub put_zeros_spec : {M : Type 1} → statement M
 put_zeros_spec = tie.close (tie.spec (λ c κs. search rules) (λ c. search rules) returns)

@@ -12,12 +12,12 @@ use Rattle.cbf_catalogue.proofs.write_catalogue.catalogue.Tie as tie
 entries-requires : tie.Need-entries-counted-requires
 entries-requires c κs = λ e. let z : ◌≡◌ {A = ℕ} 0 1 = cc in absurd (omega arith)
 
-few : (c : tie.In-Count) → c.before.counted-in-Count-1.given.0.0 ≤ 512
+few : (c : tie.In-Count) → c.in-Count.n ≤ 512
 few c =
     let b = c.before in
     let m = b.before.before.before.before in
-    let a = m.before.before.before.before.args in
-    few-counted a.limit a.file.now (sym b.counted-in-Count-1.given.1 ∙ m.entries-counted.ensures.0)
+    let a = m.args in
+    few-counted a.limit a.file.now (sym b.in-Count.is ∙ m.entries-counted.ensures.0)
 
 mul-needed : tie.Need-overflow_mul-needed
 mul-needed c = omega (arith, few c)
@@ -29,10 +29,10 @@ returns : tie.Need-returns-then-out-needed
 returns c =
     let b = c.before.before.before in
     let m = b.before.before.before.before in
-    let a = m.before.before.before.before.args in
-    let is = sym b.counted-in-Count-1.given.1 ∙ m.entries-counted.ensures.0 in
+    let a = m.args in
+    let is = sym b.in-Count.is ∙ m.entries-counted.ensures.0 in
     let r = catalogue-no-room a.limit a.file.now a.out.now m.entries-counted.ensures.1 is
-    c.before.if-out-needed.true in
+    c.if-out-needed.true in
     (c.refused.ensures ∙ r.0, r.1)
 
 entries-requires-2 : tie.Need-entries-requires
@@ -40,24 +40,24 @@ entries-requires-2 c κs =
     let h = c.before.before.before in
     let b = h.before.before.before.before in
     let m = b.before.before.before.before in
-    let a = m.before.before.before.before.args in
-    let is = sym b.counted-in-Count-1.given.1 ∙ m.entries-counted.ensures.0 in
-    λ e. catalogue-fits a.limit a.file.now a.out.now m.entries-counted.ensures.1 is h.before.before.if-out-needed.false h.put_heading.ensures
+    let a = m.args in
+    let is = sym b.in-Count.is ∙ m.entries-counted.ensures.0 in
+    λ e. catalogue-fits a.limit a.file.now a.out.now m.entries-counted.ensures.1 is h.if-out-needed.false h.put_heading.ensures
 
 returns-2 : tie.Need-returns-in-Refused
 returns-2 c =
     let b = c.before in
     let m = b.before.before.before.before in
-    let a = m.before.before.before.before.args in
-    let is = sym b.counted-1.given.1 ∙ m.entries-counted.ensures.0 in
+    let a = m.args in
+    let is = sym b.in-Refused.is ∙ m.entries-counted.ensures.0 in
     catalogue-refused a.limit a.file.now a.out.now m.entries-counted.ensures.1 is
 
 returns-3 : tie.Need-returns-in-LongName
 returns-3 c =
     let b = c.before in
     let m = b.before.before.before.before in
-    let a = m.before.before.before.before.args in
-    let is = sym b.counted-in-LongName-1.given.1 ∙ m.entries-counted.ensures.0 in
+    let a = m.args in
+    let is = sym b.in-LongName.is ∙ m.entries-counted.ensures.0 in
     catalogue-long a.limit a.file.now a.out.now m.entries-counted.ensures.1 is
 
 returns-4 : tie.Need-returns-else-out-needed
@@ -66,10 +66,10 @@ returns-4 c =
     let h = w.before.before.before.before in
     let b = h.before.before.before.before in
     let m = b.before.before.before.before in
-    let a = m.before.before.before.before.args in
-    let is = sym b.counted-in-Count-1.given.1 ∙ m.entries-counted.ensures.0 in
+    let a = m.args in
+    let is = sym b.in-Count.is ∙ m.entries-counted.ensures.0 in
     catalogue-has-room a.limit a.file.now a.out.now m.entries-counted.ensures.1 is
-    h.before.before.if-out-needed.false h.put_heading.ensures w.entries.ensures.1
+    h.if-out-needed.false h.put_heading.ensures w.entries.ensures.1
 
 pub catalogue_spec : {M : Type 1} → statement M
 catalogue_spec =

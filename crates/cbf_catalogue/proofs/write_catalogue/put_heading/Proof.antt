@@ -11,7 +11,7 @@ unfolding octets
 returns c =
     let t2 = c.before.before in
     let t1 = t2.before.before.before.before in
-    let a = t1.before.before.before.before.args in
+    let a = t1.args in
     heading-put a.out.now a.count t1.put_text-after_version.ensures t2.put_little.ensures
 
 pub put_heading_spec : {M : Type 1} → statement M

@@ -15,29 +15,29 @@ returns c fs e = rw (absent (look TransferEncoding fs) (found_at fs TransferEnco
 returns-2 : tie.Need-returns-then-needed_size-eq0
 unfolding described_by
 returns-2 c fs e = rw (
-  there (look TransferEncoding fs) (found_at fs TransferEncoding e) c.before.if-needed_encoding-eq0.false,
+  there (look TransferEncoding fs) (found_at fs TransferEncoding e) c.if-needed_encoding-eq0.false,
   absent (look Size fs) (found_at fs Size e) c.if-needed_size-eq0.true,
 )
 
 returns-3 : tie.Need-returns-then-needed_elements-eq0
 unfolding described_by
 returns-3 c fs e = rw (
-  there (look TransferEncoding fs) (found_at fs TransferEncoding e) c.before.before.if-needed_encoding-eq0.false,
-  there (look Size fs) (found_at fs Size e) c.before.if-needed_size-eq0.false,
+  there (look TransferEncoding fs) (found_at fs TransferEncoding e) c.if-needed_encoding-eq0.false,
+  there (look Size fs) (found_at fs Size e) c.if-needed_size-eq0.false,
   absent (look Elements fs) (found_at fs Elements e) c.if-needed_elements-eq0.true,
 )
 
 description-of-requires : tie.Need-description_of-requires
 description-of-requires c κs =
-    let r = c.before.before.before.requires in
+    let r = c.requires in
     (r, omega (arith, r.most Size), omega (arith, r.most Elements))
 
 returns-4 : tie.Need-returns
 returns-4 c fs e =
     rw (
-      there (look TransferEncoding fs) (found_at fs TransferEncoding e) c.before.before.before.if-needed_encoding-eq0.false,
-      there (look Size fs) (found_at fs Size e) c.before.before.if-needed_size-eq0.false,
-      there (look Elements fs) (found_at fs Elements e) c.before.if-needed_elements-eq0.false,
+      there (look TransferEncoding fs) (found_at fs TransferEncoding e) c.if-needed_encoding-eq0.false,
+      there (look Size fs) (found_at fs Size e) c.if-needed_size-eq0.false,
+      there (look Elements fs) (found_at fs Elements e) c.if-needed_elements-eq0.false,
     )
     (c.description_of.ensures fs e)
 

@@ -6,42 +6,42 @@ use Rattle.cbf_headers.proofs.describe.dimensions_agree.Statement.{statement}
 use Rattle.cbf_headers.proofs.describe.dimensions_agree.Tie as tie
 
 returns : tie.Need-returns-then-second-ne0
-returns c = rw (c.before.if-fastest-eq0.true, optional-some _ c.if-second-ne0.true)
+returns c = rw (c.if-fastest-eq0.true, optional-some _ c.if-second-ne0.true)
 
 returns-2 : tie.Need-returns-then-fastest-eq0
-returns-2 c = let e : c.before.before.args.second ≡ 0 = omega arith in rw (c.before.if-fastest-eq0.true, e)
-    (none-given c.before.before.args.third c.before.before.args.elements)
+returns-2 c = let e : c.args.second ≡ 0 = omega arith in rw (c.if-fastest-eq0.true, e)
+    (none-given c.args.third c.args.elements)
 
 returns-3 : tie.Need-returns-then-third-ne0
-returns-3 c = rw (optional-some _ c.before.before.if-fastest-eq0.false, c.before.if-second-eq0.true, optional-some _ c.if-third-ne0.true)
+returns-3 c = rw (optional-some _ c.if-fastest-eq0.false, c.if-second-eq0.true, optional-some _ c.if-third-ne0.true)
 
 returns-4 : tie.Need-returns-then-second-eq0
-returns-4 c = let e : c.before.before.before.args.third ≡ 0 = omega arith in rw (optional-some _ c.before.before.if-fastest-eq0.false, c.before.if-second-eq0.true, e)
+returns-4 c = let e : c.args.third ≡ 0 = omega arith in rw (optional-some _ c.if-fastest-eq0.false, c.if-second-eq0.true, e)
 
 mul-area : tie.Need-overflow_mul-area
-mul-area c = product-fits c.before.before.requires.0 c.before.before.requires.1 (omega arith)
+mul-area c = product-fits c.requires.0 c.requires.1 (omega arith)
 
 returns-5 : tie.Need-returns-then-third-eq0
-returns-5 c = rw (optional-some _ c.before.before.if-fastest-eq0.false, optional-some _ c.before.if-second-eq0.false, c.if-third-eq0.true)
+returns-5 c = rw (optional-some _ c.if-fastest-eq0.false, optional-some _ c.if-second-eq0.false, c.if-third-eq0.true)
 
 returns-6 : tie.Need-returns-then-elements-area
 returns-6 c = rw (
-  optional-some _ c.before.before.before.if-fastest-eq0.false,
+  optional-some _ c.if-fastest-eq0.false,
   optional-some _
-      c.before.before.if-second-eq0.false,
-  optional-some _ c.before.if-third-eq0.false,
+      c.if-second-eq0.false,
+  optional-some _ c.if-third-eq0.false,
 )
-    (sym (too_many _ _ _ c.if-elements-area.true c.before.if-third-eq0.false))
+    (sym (too_many _ _ _ c.if-elements-area.true c.if-third-eq0.false))
 
 mul-result : tie.Need-overflow_mul-result
-mul-result c = product-fits c.if-elements-area.false c.before.before.before.before.requires.2 (omega arith)
+mul-result c = product-fits c.if-elements-area.false c.requires.2 (omega arith)
 
 returns-7 : tie.Need-returns
 returns-7 c = rw (
-  optional-some _ c.before.before.before.if-fastest-eq0.false,
+  optional-some _ c.if-fastest-eq0.false,
   optional-some _
-      c.before.before.if-second-eq0.false,
-  optional-some _ c.before.if-third-eq0.false,
+      c.if-second-eq0.false,
+  optional-some _ c.if-third-eq0.false,
 )
 
 pub dimensions_agree_spec : {M : Type 1} → statement M

@@ -7,16 +7,16 @@ use Rattle.cbf_headers.proofs.describe.size_agrees.Statement.{statement}
 use Rattle.cbf_headers.proofs.describe.size_agrees.Tie as tie
 
 mul-result : tie.Need-overflow_mul-result
-mul-result c = product-fits c.before.before.before.requires.1 c.octets_per.ensures.1 (omega arith)
+mul-result c = product-fits c.requires.1 c.octets_per.ensures.1 (omega arith)
 
 returns : tie.Need-returns-then-size-elements
-returns c = rw (c.before.enum_told-in-ByteOffset-1.given.1, lt-leb _ _ c.if-size-elements.true)
+returns c = rw (c.in-ByteOffset.is, lt-leb _ _ c.if-size-elements.true)
 
 returns-2 : tie.Need-returns-in-Uncompressed
-returns-2 c = rw (c.before.enum_told-1.given.1, c.octets_per.ensures.0)
+returns-2 c = rw (c.in-Uncompressed.is, c.octets_per.ensures.0)
 
 returns-3 : tie.Need-returns-else-size-elements
-returns-3 c = rw (c.before.enum_told-in-ByteOffset-1.given.1, le-leb _ _ c.if-size-elements.false)
+returns-3 c = rw (c.in-ByteOffset.is, le-leb _ _ c.if-size-elements.false)
 
 pub size_agrees_spec : {M : Type 1} → statement M
 size_agrees_spec =

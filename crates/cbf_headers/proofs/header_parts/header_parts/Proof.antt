@@ -31,9 +31,9 @@ after-end-requires c κs = let e = ends c.before.before.before in let r = c.afte
 loop-holds : tie.Need-loop-next-init invariant-loop decreases-loop
 loop-holds c h =
     let s = c.before.before.before.before in
-    walk_first s.args.file.now s.args.from s.args.empty h c.before.before.after-colon.result
-    c.before.after_text-to.result c.after_end-next.result
-    s.requires.1 c.before.before.after-colon.ensures c.before.after_text-to.ensures c.after_end-next.ensures.0
+    walk_first s.args.file.now s.args.from s.args.empty h c.after-colon.result
+    c.after_text-to.result c.after_end-next.result
+    s.requires.1 c.after-colon.ensures c.after_text-to.ensures c.after_end-next.ensures.0
 
 shared-slice-read-blank : tie.Need-bounds-file-next invariant-loop decreases-loop
 shared-slice-read-blank c = let e = ends c.before.before.before.before.before.before.before in omega arith
@@ -41,10 +41,10 @@ shared-slice-read-blank c = let e = ends c.before.before.before.before.before.be
 returns : tie.Need-returns-then-not-blank invariant-loop decreases-loop
 returns c h =
     let s = c.before.before.before.before.before.before.before.before.before in
-    let l = c.before.before.before.before.loop-next in
+    let l = c.loop-next in
     walk-stop s.args.file.now s.args.from s.args.empty h
-    c.before.before.before.before.before.before.before.after-colon.result l.to l.next (l.invariant h)
-    c.before.before.before.loop-next-test.true (sym c.before.blank.ensures ∙ not-true _ c.if-not-blank.true)
+    c.after-colon.result l.to l.next (l.invariant h)
+    c.loop-next-test.true (sym c.blank.ensures ∙ c.if-not-blank.true)
 
 after-text-requires-2 : tie.Need-after_text-to-requires-in-loop-next invariant-loop decreases-loop
 after-text-requires-2 c κs = let e = ends c.before.before.before.before.before.before.before.before.before in (omega arith, omega arith)
@@ -56,23 +56,23 @@ after-end-requires-2 c κs =
     omega arith
 
 loop-less : tie.Need-loop-next-smaller invariant-loop decreases-loop
-loop-less c = let r = c.before.after_text-to-in-loop-next.ensures.low in let e = c.after_end-next-in-loop-next.ensures.1 in omega arith
+loop-less c = let r = c.after_text-to-in-loop-next.ensures.low in let e = c.after_end-next-in-loop-next.ensures.1 in omega arith
 
 loop-again : tie.Need-loop-next-preserved invariant-loop decreases-loop
 loop-again c h =
     let s = c.before.before.before.before.before.before.before.before.before.before.before in
-    let l = c.before.before.before.before.before.before.loop-next in
+    let l = c.loop-next in
     walk_more s.args.file.now s.args.from s.args.empty h
-    c.before.before.before.before.before.before.before.before.before.after-colon.result l.to l.next
+    c.after-colon.result l.to l.next
     (l.invariant h)
-    c.before.before.before.before.before.loop-next-test.true (sym c.before.before.before.blank.ensures ∙ not-false _ c.before.before.if-not-blank.false)
-    c.before.after_text-to-in-loop-next.result c.after_end-next-in-loop-next.result c.before.after_text-to-in-loop-next.ensures c.after_end-next-in-loop-next.ensures.0
+    c.loop-next-test.true (sym c.blank.ensures ∙ c.if-not-blank.false)
+    c.after_text-to-in-loop-next.result c.after_end-next-in-loop-next.result c.after_text-to-in-loop-next.ensures c.after_end-next-in-loop-next.ensures.0
 
 returns-2 : tie.Need-returns invariant-loop decreases-loop
 returns-2 c h =
     let s = c.before.before.before.before.before.before in
-    let l = c.before.loop-next in
-    walk_end s.args.file.now s.args.from s.args.empty h c.before.before.before.before.after-colon.result l.to l.next (l.invariant h)
+    let l = c.loop-next in
+    walk_end s.args.file.now s.args.from s.args.empty h c.after-colon.result l.to l.next (l.invariant h)
     (omega arith)
 
 pub header_parts_spec : {M : Type 1} → statement M

@@ -17,49 +17,45 @@ decreases-loop file at limit next₀ first₀ next first = length file - next
 
 loop-holds : tie.Need-loop-next-init invariant-loop decreases-loop
 loop-holds c =
-    let a = c.before.args in
-    passed_none a.file.now a.at a.limit c.before.requires.0 c.before.requires.1
+    let a = c.args in
+    passed_none a.file.now a.at a.limit c.requires.0 c.requires.1
 
 header-line-requires : tie.Need-header_line-l-requires invariant-loop decreases-loop
-header-line-requires c κs = c.before.loop-next.invariant.high
+header-line-requires c κs = c.loop-next.invariant.high
 
 returns : tie.Need-returns-in-Refused invariant-loop decreases-loop
 returns c =
-    let l = c.before.before.before.before.before.loop-next in
-    let a = c.before.before.before.before.before.before.before.args in
-    let g = c.before.l-1.given in
-    passed-refused a.file.now a.at a.limit l.next l.first l.invariant (omega arith) g.0.0 g.1
-    c.before.before.before.header_line-l.ensures
+    let l = c.loop-next in
+    let a = c.args in
+    passed-refused a.file.now a.at a.limit l.next l.first l.invariant (omega arith) c.in-Refused.r c.in-Refused.is
+    c.header_line-l.ensures
 
 returns-2 : tie.Need-returns-then-to-next invariant-loop decreases-loop
 returns-2 c =
-    let l = c.before.before.before.before.before.before.loop-next in
-    let a = c.before.before.before.before.before.before.before.before.args in
-    let g = c.before.before.l-in-Text-1.given in
-    passed-empty a.file.now a.at a.limit l.next l.first l.invariant (omega arith) g.0.0 g.0.1.0
-    g.1 c.before.before.before.before.header_line-l.ensures c.if-to-next.true
+    let l = c.loop-next in
+    let a = c.args in
+    passed-empty a.file.now a.at a.limit l.next l.first l.invariant (omega arith) c.in-Text.to c.in-Text.after
+    c.in-Text.is c.header_line-l.ensures c.if-to-next.true
 
 loop-less : tie.Need-loop-next-smaller invariant-loop decreases-loop
 loop-less c =
-    let l = c.before.before.before.before.before.before.loop-next in
-    let a = c.before.before.before.before.before.before.before.before.args in
-    let g = c.before.before.l-in-Text-1.given in
-    let p = passed-line a.file.now a.at a.limit l.next l.first l.invariant (omega arith) g.0.0 g.0.1.0
-    g.1 c.before.before.before.before.header_line-l.ensures c.if-to-next.false in
+    let l = c.loop-next in
+    let a = c.args in
+    let p = passed-line a.file.now a.at a.limit l.next l.first l.invariant (omega arith) c.in-Text.to c.in-Text.after
+    c.in-Text.is c.header_line-l.ensures c.if-to-next.false in
     omega (arith, p.1, p.0.high)
 
 loop-again : tie.Need-loop-next-preserved invariant-loop decreases-loop
 loop-again c =
-    let l = c.before.before.before.before.before.before.loop-next in
-    let a = c.before.before.before.before.before.before.before.before.args in
-    let g = c.before.before.l-in-Text-1.given in
-    (passed-line a.file.now a.at a.limit l.next l.first l.invariant (omega arith) g.0.0 g.0.1.0
-    g.1 c.before.before.before.before.header_line-l.ensures c.if-to-next.false).0
+    let l = c.loop-next in
+    let a = c.args in
+    (passed-line a.file.now a.at a.limit l.next l.first l.invariant (omega arith) c.in-Text.to c.in-Text.after
+    c.in-Text.is c.header_line-l.ensures c.if-to-next.false).0
 
 returns-3 : tie.Need-returns invariant-loop decreases-loop
 returns-3 c =
-    let l = c.before.loop-next in
-    let a = c.before.before.before.args in
+    let l = c.loop-next in
+    let a = c.args in
     passed-all a.file.now a.at a.limit l.next l.first l.invariant (omega arith)
 
 pub header_end_spec : {M : Type 1} → statement M

@@ -20,8 +20,8 @@ abbrev start : tie.In-loop-at invariant-loop decreases-loop → tie.Start invari
 start c = c.before.before.before.before
 
 -- the headers that are left
-headers-at : (c : tie.In-loop-at invariant-loop decreases-loop) → HeadersHere (start c).args.file.now c.before.loop-at.at (start c).args.empty
-headers-at c = (c.before.loop-at.invariant.left (start c).requires).on
+headers-at : (c : tie.In-loop-at invariant-loop decreases-loop) → HeadersHere (start c).args.file.now c.loop-at.at (start c).args.empty
+headers-at c = (c.loop-at.invariant.left (start c).requires).on
 
 inside : (c : tie.In-loop-at invariant-loop decreases-loop) → (start c).args.empty < length (start c).args.file.now
 inside c = headers-inside (headers-at c)
@@ -29,7 +29,7 @@ inside c = headers-inside (headers-at c)
 -- the parts of the first of them
 parts_at : (c : tie.After-header_parts-parts invariant-loop decreases-loop)
     → let a = (start c.before).args in
-    HeaderParts a.file.now c.before.before.loop-at.at a.empty (headers-at c.before) c.header_parts-parts.result
+    HeaderParts a.file.now c.loop-at.at a.empty (headers-at c.before) c.header_parts-parts.result
 parts_at c = c.header_parts-parts.ensures (headers-at c.before)
 
 -- where its name is a known one
@@ -37,7 +37,7 @@ abbrev parts-of : tie.In-Known invariant-loop decreases-loop → tie.After-heade
 parts-of k = k.before.before.before.before
 
 loop-holds : tie.Need-loop-at-init invariant-loop decreases-loop
-loop-holds c = let a = c.before.before.args in judging-none a.file.now a.from a.empty c.nothing-values.ensures
+loop-holds c = let a = c.args in judging-none a.file.now a.from a.empty c.nothing-values.ensures
 
 header-parts-requires : tie.Need-header_parts-parts-requires invariant-loop decreases-loop
 header-parts-requires c κs = (headers-at c, c.loop-at-test.true)
@@ -49,9 +49,9 @@ returns : tie.Need-returns-then-field-ne0 invariant-loop decreases-loop
 returns c =
     let k = c.before.before in
     let p = parts-of k in
-    let i = p.before.before.loop-at.invariant in (
-      judging-repeated i p.header_parts-parts.ensures k.before.before.before.known-name.ensures k.before.name-1.given.1
-          (λ z. omega (arith, c.if-field-ne0.true, c.before.field.ensures)),
+    let i = p.loop-at.invariant in (
+      judging-repeated i p.header_parts-parts.ensures k.known-name.ensures k.in-Known.is
+          (λ z. omega (arith, c.if-field-ne0.true, c.field.ensures)),
       i.range,
     )
 
@@ -72,45 +72,45 @@ returns-2 c =
     let v = c.before.before in
     let k = v.before.before.before in
     let p = parts-of k in
-    let i = p.before.before.loop-at.invariant in (
-      judging-bad i p.header_parts-parts.ensures k.before.before.before.known-name.ensures k.before.name-1.given.1
-          (omega (arith, v.before.if-field-ne0.false, v.before.before.field.ensures)) v.known_value-v.ensures.0 c.enum_told-1.given.1,
+    let i = p.loop-at.invariant in (
+      judging-bad i p.header_parts-parts.ensures k.known-name.ensures k.in-Known.is
+          (omega (arith, v.if-field-ne0.false, v.field.ensures)) v.known_value-v.ensures.0 c.in-Bad.is,
       i.range,
     )
 
 add-with-field : tie.Need-overflow_add-n invariant-loop decreases-loop
-add-with-field c = omega (arith, number-range c.before.v-1.given.1 c.before.before.before.known_value-v.ensures.1)
+add-with-field c = omega (arith, number-range c.in-Number.is c.known_value-v.ensures.1)
 
 loop-less : tie.Need-loop-at-smaller-in-Number invariant-loop decreases-loop
 loop-less c =
     let m = parts-of c.before.before.before.before.before.before.before in
     let p = parts_at m in
-    omega (arith, p.name_in, p.value_in, p.to_in, m.before.loop-at-test.taken)
+    omega (arith, p.name_in, p.value_in, p.to_in, m.loop-at-test.taken)
 
 loop-again : tie.Need-loop-at-preserved-in-Number invariant-loop decreases-loop
 loop-again c =
     let v = c.before.before.before.before in
     let k = v.before.before.before in
     let p = parts-of k in
-    judging-number p.before.before.loop-at.invariant p.header_parts-parts.ensures k.before.before.before.known-name.ensures k.before.name-1.given.1
-    (omega (arith, v.before.if-field-ne0.false, v.before.before.field.ensures)) v.known_value-v.ensures.0 c.before.before.v-1.given.1
+    judging-number p.loop-at.invariant p.header_parts-parts.ensures k.known-name.ensures k.in-Known.is
+    (omega (arith, v.if-field-ne0.false, v.field.ensures)) v.known_value-v.ensures.0 c.in-Number.is
     v.known_value-v.ensures.1 c.with_field-values.ensures
 
 loop-less-2 : tie.Need-loop-at-smaller invariant-loop decreases-loop
 loop-less-2 c =
     let m = c.before.before.before in
     let p = parts_at m in
-    omega (arith, p.name_in, p.value_in, p.to_in, m.before.loop-at-test.true)
+    omega (arith, p.name_in, p.value_in, p.to_in, m.loop-at-test.true)
 
 loop-again-2 : tie.Need-loop-at-preserved invariant-loop decreases-loop
 loop-again-2 c =
     let m = c.before.before.before in
-    judging-other m.before.before.loop-at.invariant m.header_parts-parts.ensures c.before.before.known-name.ensures c.enum_told-in_default-1.given.1
+    judging-other m.loop-at.invariant m.header_parts-parts.ensures c.known-name.ensures c.in_default.is
 
 returns-3 : tie.Need-returns invariant-loop decreases-loop
 returns-3 c =
-    let i = c.before.loop-at.invariant in
-    (judging-all c.before.before.before.before.args.empty i c.loop-at-test.false, i.range)
+    let i = c.loop-at.invariant in
+    (judging-all c.args.empty i c.loop-at-test.false, i.range)
 
 pub judge_headers_spec : {M : Type 1} → statement M
 judge_headers_spec =

@@ -14,60 +14,53 @@ use Rattle.cbf_headers.proofs.section_headers.section_headers.Tie as tie
 -- the lines up to the empty line
 lines :
     (c : tie.In-Empty)
-    → let a = c.before.before.before.before.before.args in
-    let g = c.before.end-in-Empty-1.given in
-    Headed a.file.now a.at a.limit file_limit g.0.0 g.0.1.0
+    → let a = c.args in
+    Headed a.file.now a.at a.limit file_limit c.in-Empty.empty c.in-Empty.after
 lines c =
-    let a = c.before.before.before.before.before.args in
-    let g = c.before.end-in-Empty-1.given in
-    headed a.file.now a.at a.limit file_limit g.0.0 g.0.1.0 (sym g.1 ∙ c.before.before.before.header_end-end.ensures)
+    let a = c.args in
+    headed a.file.now a.at a.limit file_limit c.in-Empty.empty c.in-Empty.after (sym c.in-Empty.is ∙ c.header_end-end.ensures)
 
 judge-headers-requires : tie.Need-judge_headers-judged-requires
-judge-headers-requires c κs = let a = c.before.before.before.before.before.args in headers-here a.file.now a.at a.limit file_limit (lines c)
+judge-headers-requires c κs = let a = c.args in headers-here a.file.now a.at a.limit file_limit (lines c)
 
 returns : tie.Need-returns-then-judged
 returns c =
-    let a = c.before.before.before.before.before.before.before.args in
-    let j = c.before.judge_headers-judged in
+    let a = c.args in
+    let j = c.judge_headers-judged in
     section-refused a.file.now a.at a.limit file_limit (lines c.before.before) j.result j.ensures.0 c.if-judged.true
 
 -- what the values say
 said :
     (c : tie.After-describe-described)
-    → let a = c.before.before.before.before.before.before.before.before.before.args in
-    let g = c.before.before.before.before.before.end-in-Empty-1.given in
-    read_as g.0.0 g.0.1.0 c.describe-described.result ≡ headers_read_at a.at (headers a.limit file_limit (drop a.at a.file.now))
+    → let a = c.args in
+    read_as c.in-Empty.empty c.in-Empty.after c.describe-described.result ≡ headers_read_at a.at (headers a.limit file_limit (drop a.at a.file.now))
 said c =
-    let a = c.before.before.before.before.before.before.before.before.before.args in
-    let j = c.before.before.before.judge_headers-judged in
+    let a = c.args in
+    let j = c.judge_headers-judged in
     section-found a.file.now a.at a.limit file_limit (lines c.before.before.before.before) j.result j.ensures.0
-    c.before.before.if-judged.false c.describe-described.result c.describe-described.ensures
+    c.if-judged.false c.describe-described.result c.describe-described.ensures
 
 returns-2 : tie.Need-returns-in-Refused
 returns-2 c =
-    let a = c.before.before.before.before.before.args in
-    let g = c.before.end-1.given in
-    headers_refused a.file.now a.at a.limit file_limit g.0.0 (sym g.1 ∙ c.before.before.before.header_end-end.ensures)
+    let a = c.args in
+    headers_refused a.file.now a.at a.limit file_limit c.in-Refused.r (sym c.in-Refused.is ∙ c.header_end-end.ensures)
 
 returns-3 : tie.Need-returns-in-CutOff
 returns-3 c =
-    let a = c.before.before.before.before.args in
-    headers-cut a.file.now a.at a.limit file_limit (sym c.enum_told-1.given.1 ∙ c.before.before.header_end-end.ensures)
+    let a = c.args in
+    headers-cut a.file.now a.at a.limit file_limit (sym c.in-CutOff.is ∙ c.header_end-end.ensures)
 
 returns-4 : tie.Need-returns-in-Missing
 returns-4 c =
-    let g = c.before.before.before.before.before.before.before.end-in-Empty-1.given in
-    ap (read_as g.0.0 g.0.1.0) (sym c.enum_told-in-Missing-1.given.1) ∙ said c.before.before
+    ap (read_as c.in-Empty.empty c.in-Empty.after) (sym c.in-Missing.is) ∙ said c.before.before
 
 returns-5 : tie.Need-returns-in-Disagree
 returns-5 c =
-    let g = c.before.before.before.before.before.before.before.end-in-Empty-1.given in
-    ap (read_as g.0.0 g.0.1.0) (sym c.enum_told-in-Disagree-1.given.1) ∙ said c.before.before
+    ap (read_as c.in-Empty.empty c.in-Empty.after) (sym c.in-Disagree.is) ∙ said c.before.before
 
 returns-6 : tie.Need-returns-in-As
 returns-6 c =
-    let g = c.before.before.before.before.before.before.before.before.end-in-Empty-1.given in
-    ap (read_as g.0.0 g.0.1.0) (sym c.before.described-1.given.1) ∙ said c.before.before.before
+    ap (read_as c.in-Empty.empty c.in-Empty.after) (sym c.in-As.is) ∙ said c.before.before.before
 
 pub section_headers_spec : {M : Type 1} → statement M
 section_headers_spec =

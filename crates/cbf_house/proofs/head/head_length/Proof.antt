@@ -11,7 +11,7 @@ short c = omega (
   arith,
   c.type_length.ensures,
   type-short
-      c.before.before.before.before.before.before.before.before.before.before.before.args.d.kind,
+      c.args.d.kind,
 )
 
 add-result : tie.Need-overflow_add-result
@@ -34,17 +34,17 @@ add-result-6 c = let h = short c in search rules
 
 returns : tie.Need-returns
 returns c =
-    let a = c.before.before.before.before.before.before.before.before.before.before.before.args in (
+    let a = c.args in (
       omega (
         arith,
         head-length a.d a.size,
         c.type_length.ensures,
-        c.before.optional_length-third.ensures.0,
-        c.before.before.before.optional_length-second.ensures.0,
-        c.before.before.before.before.before.optional_length-fastest.ensures.0,
-        c.before.before.before.before.before.before.before.optional_length-id.ensures.0,
-        c.before.before.before.before.before.before.before.before.before.digit_count-2.ensures.0,
-        c.before.before.before.before.before.before.before.before.before.before.digit_count.ensures.0,
+        c.optional_length-third.ensures.0,
+        c.optional_length-second.ensures.0,
+        c.optional_length-fastest.ensures.0,
+        c.optional_length-id.ensures.0,
+        c.digit_count-2.ensures.0,
+        c.digit_count.ensures.0,
       ),
       let h = short c in search rules,
     )

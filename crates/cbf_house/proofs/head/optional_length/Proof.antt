@@ -8,14 +8,14 @@ use Rattle.cbf_house.proofs.head.optional_length.Tie as tie
 
 returns : tie.Need-returns-then-n-eq0
 returns c =
-    let a = c.before.before.args in
+    let a = c.args in
     rw (optional-none a.n c.if-n-eq0.true, no_line a.name.now) (refl, omega arith)
 
 returns-2 : tie.Need-returns
 returns-2 c =
     let s = c.before.before.before in
     let a = s.args in
-    rw (optional-some a.n (omega (arith, c.before.if-n-eq0.false)))
+    rw (optional-some a.n (omega (arith, c.if-n-eq0.false)))
     (omega (arith, line-length a.name.now a.n, c.digit_count.ensures.0), omega (arith, s.requires, c.digit_count.ensures.1))
 
 pub optional_length_spec : {M : Type 1} → statement M

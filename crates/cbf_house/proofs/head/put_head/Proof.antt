@@ -22,112 +22,112 @@ none_yet s = let a = s.args in written_none (head_pieces a.d a.size) (head-piece
 abbrev start-1 : tie.After-put_text-after_opening → tie.Start
 start-1 c = c.before.before.before.before
 
-after-1 : (c : tie.After-put_text-after_opening) → Pieces (start-1 c) 1 c.put_text-after_opening.result c.put_text-after_opening.new.0
-after-1 c = written-more (none_yet c.before.before.before.before) c.put_text-after_opening.ensures
+after-1 : (c : tie.After-put_text-after_opening) → Pieces (start-1 c) 1 c.put_text-after_opening.result c.put_text-after_opening.new.out
+after-1 c = written-more (none_yet c.before.before.before.before.before) c.put_text-after_opening.ensures
 
 abbrev start-2 : tie.After-put_text-after_encoding → tie.Start
-start-2 c = start-1 c.before.before.before.before.before
+start-2 c = start-1 c.before.before.before.before.before.before
 
-after-2 : (c : tie.After-put_text-after_encoding) → Pieces (start-2 c) 2 c.put_text-after_encoding.result c.put_text-after_encoding.new.0
-after-2 c = written-more (after-1 c.before.before.before.before.before) c.put_text-after_encoding.ensures
+after-2 : (c : tie.After-put_text-after_encoding) → Pieces (start-2 c) 2 c.put_text-after_encoding.result c.put_text-after_encoding.new.out
+after-2 c = written-more (after-1 c.before.before.before.before.before.before) c.put_text-after_encoding.ensures
 
 abbrev start-3 : tie.After-put_line-after_size → tie.Start
-start-3 c = start-2 c.before.before.before.before.before
+start-3 c = start-2 c.before.before.before.before.before.before
 
-after-3 : (c : tie.After-put_line-after_size) → Pieces (start-3 c) 3 c.put_line-after_size.result c.put_line-after_size.new.0
-after-3 c = written-more (after-2 c.before.before.before.before.before) c.put_line-after_size.ensures
+after-3 : (c : tie.After-put_line-after_size) → Pieces (start-3 c) 3 c.put_line-after_size.result c.put_line-after_size.new.out
+after-3 c = written-more (after-2 c.before.before.before.before.before.before) c.put_line-after_size.ensures
 
 abbrev start-4 : tie.After-put_optional-after_id → tie.Start
-start-4 c = start-3 c.before.before.before.before.before
+start-4 c = start-3 c.before.before.before.before.before.before
 
-after-4 : (c : tie.After-put_optional-after_id) → Pieces (start-4 c) 4 c.put_optional-after_id.result c.put_optional-after_id.new.0
-after-4 c = written-more (after-3 c.before.before.before.before.before) c.put_optional-after_id.ensures
+after-4 : (c : tie.After-put_optional-after_id) → Pieces (start-4 c) 4 c.put_optional-after_id.result c.put_optional-after_id.new.out
+after-4 c = written-more (after-3 c.before.before.before.before.before.before) c.put_optional-after_id.ensures
 
 abbrev start-5 : tie.After-put_text-type_at → tie.Start
-start-5 c = start-4 c.before.before.before.before.before
+start-5 c = start-4 c.before.before.before.before.before.before
 
-after-5 : (c : tie.After-put_text-type_at) → Pieces (start-5 c) 5 c.put_text-type_at.result c.put_text-type_at.new.0
-after-5 c = written-more (after-4 c.before.before.before.before.before) c.put_text-type_at.ensures
+after-5 : (c : tie.After-put_text-type_at) → Pieces (start-5 c) 5 c.put_text-type_at.result c.put_text-type_at.new.out
+after-5 c = written-more (after-4 c.before.before.before.before.before.before) c.put_text-type_at.ensures
 
 abbrev start-6 : tie.After-put_type-type_end → tie.Start
 start-6 c = start-5 c.before.before.before.before
 
-after-6 : (c : tie.After-put_type-type_end) → Pieces (start-6 c) 6 c.put_type-type_end.result c.put_type-type_end.new.0
+after-6 : (c : tie.After-put_type-type_end) → Pieces (start-6 c) 6 c.put_type-type_end.result c.put_type-type_end.new.out
 after-6 c = written-more (after-5 c.before.before.before.before) c.put_type-type_end.ensures
 
 abbrev start-7 : tie.After-put_text-after_order → tie.Start
-start-7 c = start-6 c.before.before.before.before.before
+start-7 c = start-6 c.before.before.before.before.before.before
 
-after-7 : (c : tie.After-put_text-after_order) → Pieces (start-7 c) 7 c.put_text-after_order.result c.put_text-after_order.new.0
-after-7 c = written-more (after-6 c.before.before.before.before.before) c.put_text-after_order.ensures
+after-7 : (c : tie.After-put_text-after_order) → Pieces (start-7 c) 7 c.put_text-after_order.result c.put_text-after_order.new.out
+after-7 c = written-more (after-6 c.before.before.before.before.before.before) c.put_text-after_order.ensures
 
 abbrev start-8 : tie.After-put_line-after_elements → tie.Start
-start-8 c = start-7 c.before.before.before.before.before
+start-8 c = start-7 c.before.before.before.before.before.before
 
-after-8 : (c : tie.After-put_line-after_elements) → Pieces (start-8 c) 8 c.put_line-after_elements.result c.put_line-after_elements.new.0
-after-8 c = written-more (after-7 c.before.before.before.before.before) c.put_line-after_elements.ensures
+after-8 : (c : tie.After-put_line-after_elements) → Pieces (start-8 c) 8 c.put_line-after_elements.result c.put_line-after_elements.new.out
+after-8 c = written-more (after-7 c.before.before.before.before.before.before) c.put_line-after_elements.ensures
 
 abbrev start-9 : tie.After-put_optional-after_fastest → tie.Start
-start-9 c = start-8 c.before.before.before.before.before
+start-9 c = start-8 c.before.before.before.before.before.before
 
-after-9 : (c : tie.After-put_optional-after_fastest) → Pieces (start-9 c) 9 c.put_optional-after_fastest.result c.put_optional-after_fastest.new.0
-after-9 c = written-more (after-8 c.before.before.before.before.before) c.put_optional-after_fastest.ensures
+after-9 : (c : tie.After-put_optional-after_fastest) → Pieces (start-9 c) 9 c.put_optional-after_fastest.result c.put_optional-after_fastest.new.out
+after-9 c = written-more (after-8 c.before.before.before.before.before.before) c.put_optional-after_fastest.ensures
 
 abbrev start-10 : tie.After-put_optional-after_second → tie.Start
-start-10 c = start-9 c.before.before.before.before.before
+start-10 c = start-9 c.before.before.before.before.before.before
 
-after-10 : (c : tie.After-put_optional-after_second) → Pieces (start-10 c) 10 c.put_optional-after_second.result c.put_optional-after_second.new.0
-after-10 c = written-more (after-9 c.before.before.before.before.before) c.put_optional-after_second.ensures
+after-10 : (c : tie.After-put_optional-after_second) → Pieces (start-10 c) 10 c.put_optional-after_second.result c.put_optional-after_second.new.out
+after-10 c = written-more (after-9 c.before.before.before.before.before.before) c.put_optional-after_second.ensures
 
 abbrev start-11 : tie.After-put_optional-after_third → tie.Start
-start-11 c = start-10 c.before.before.before.before.before
+start-11 c = start-10 c.before.before.before.before.before.before
 
-after-11 : (c : tie.After-put_optional-after_third) → Pieces (start-11 c) 11 c.put_optional-after_third.result c.put_optional-after_third.new.0
-after-11 c = written-more (after-10 c.before.before.before.before.before) c.put_optional-after_third.ensures
+after-11 : (c : tie.After-put_optional-after_third) → Pieces (start-11 c) 11 c.put_optional-after_third.result c.put_optional-after_third.new.out
+after-11 c = written-more (after-10 c.before.before.before.before.before.before) c.put_optional-after_third.ensures
 
 abbrev start-12 : tie.After-put_text → tie.Start
-start-12 c = start-11 c.before.before.before.before.before
+start-12 c = start-11 c.before.before.before.before.before.before
 
-after-12 : (c : tie.After-put_text) → Pieces (start-12 c) 12 c.put_text.result c.put_text.new.0
-after-12 c = written-more (after-11 c.before.before.before.before.before) c.put_text.ensures
+after-12 : (c : tie.After-put_text) → Pieces (start-12 c) 12 c.put_text.result c.put_text.new.out
+after-12 c = written-more (after-11 c.before.before.before.before.before.before) c.put_text.ensures
 
 -- what each call needs
 
 put-text-requires : tie.Need-put_text-after_opening-requires
-put-text-requires c κs = next_fits (none_yet c.before.before.before)
+put-text-requires c κs = next_fits (none_yet c.before.before.before.before)
 
 put-text-requires-2 : tie.Need-put_text-after_encoding-requires
-put-text-requires-2 c κs = next_fits (after-1 c.before.before.before.before)
+put-text-requires-2 c κs = next_fits (after-1 c.before.before.before.before.before)
 
 put-line-requires : tie.Need-put_line-after_size-requires
-put-line-requires c κs = next_fits (after-2 c.before.before.before.before)
+put-line-requires c κs = next_fits (after-2 c.before.before.before.before.before)
 
 put-optional-requires : tie.Need-put_optional-after_id-requires
-put-optional-requires c κs = next_fits (after-3 c.before.before.before.before)
+put-optional-requires c κs = next_fits (after-3 c.before.before.before.before.before)
 
 put-text-requires-3 : tie.Need-put_text-type_at-requires
-put-text-requires-3 c κs = next_fits (after-4 c.before.before.before.before)
+put-text-requires-3 c κs = next_fits (after-4 c.before.before.before.before.before)
 
 put-type-requires : tie.Need-put_type-type_end-requires
 put-type-requires c κs = next_fits (after-5 c.before.before.before)
 
 put-text-requires-4 : tie.Need-put_text-after_order-requires
-put-text-requires-4 c κs = next_fits (after-6 c.before.before.before.before)
+put-text-requires-4 c κs = next_fits (after-6 c.before.before.before.before.before)
 
 put-line-requires-2 : tie.Need-put_line-after_elements-requires
-put-line-requires-2 c κs = next_fits (after-7 c.before.before.before.before)
+put-line-requires-2 c κs = next_fits (after-7 c.before.before.before.before.before)
 
 put-optional-requires-2 : tie.Need-put_optional-after_fastest-requires
-put-optional-requires-2 c κs = next_fits (after-8 c.before.before.before.before)
+put-optional-requires-2 c κs = next_fits (after-8 c.before.before.before.before.before)
 
 put-optional-requires-3 : tie.Need-put_optional-after_second-requires
-put-optional-requires-3 c κs = next_fits (after-9 c.before.before.before.before)
+put-optional-requires-3 c κs = next_fits (after-9 c.before.before.before.before.before)
 
 put-optional-requires-4 : tie.Need-put_optional-after_third-requires
-put-optional-requires-4 c κs = next_fits (after-10 c.before.before.before.before)
+put-optional-requires-4 c κs = next_fits (after-10 c.before.before.before.before.before)
 
 put-text-requires-5 : tie.Need-put_text-requires
-put-text-requires-5 c κs = next_fits (after-11 c.before.before.before.before)
+put-text-requires-5 c κs = next_fits (after-11 c.before.before.before.before.before)
 
 same_length : tie.Need-shape_of-out
 same_length c = written-length (after-12 c.before.before)

@@ -18,11 +18,11 @@ Pieces s k r new =
 none_yet : (s : tie.Start) → Pieces s 0 s.args.at s.args.out.now
 none_yet s = written_none (line_pieces s.args.name.now s.args.n) (line-pieces s.args.name.now s.args.n) s.requires
 
-after-1 : (c : tie.After-put_text-after_name) → Pieces c.before.before.before.before 1 c.put_text-after_name.result c.put_text-after_name.new.0
+after-1 : (c : tie.After-put_text-after_name) → Pieces c.before.before.before.before 1 c.put_text-after_name.result c.put_text-after_name.new.out
 after-1 c = written-more (none_yet c.before.before.before.before) c.put_text-after_name.ensures
 
 after-2 : (c : tie.After-put_number-after_number) → Pieces c.before.before.before.before.before.before.before.before 2
-    c.put_number-after_number.result c.put_number-after_number.new.0
+    c.put_number-after_number.result c.put_number-after_number.new.out
 after-2 c = written-more (after-1 c.before.before.before.before) c.put_number-after_number.ensures
 
 put-text-requires : tie.Need-put_text-after_name-requires
@@ -32,10 +32,10 @@ put-number-requires : tie.Need-put_number-after_number-requires
 put-number-requires c κs = next_fits (after-1 c.before.before.before)
 
 put-text-requires-2 : tie.Need-put_text-requires
-put-text-requires-2 c κs = next_fits (after-2 c.before.before.before.before)
+put-text-requires-2 c κs = next_fits (after-2 c.before.before.before.before.before)
 
 returns : tie.Need-returns
-returns c = written_all (written-more (after-2 c.before.before.before.before.before.before.before) c.before.before.put_text.ensures)
+returns c = written_all (written-more (after-2 c.before.before.before.before.before.before.before.before) c.put_text.ensures)
 
 pub put_line_spec : {M : Type 1} → statement M
 put_line_spec =

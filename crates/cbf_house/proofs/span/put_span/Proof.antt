@@ -28,26 +28,26 @@ none_yet s =
 abbrev start-1 : tie.After-put_head-first → tie.Start
 start-1 c = c.before.before.before
 
-after-1 : (c : tie.After-put_head-first) → Pieces (start-1 c) 1 c.put_head-first.result c.put_head-first.new.0
+after-1 : (c : tie.After-put_head-first) → Pieces (start-1 c) 1 c.put_head-first.result c.put_head-first.new.out
 after-1 c = written-more (none_yet (start-1 c)) c.put_head-first.ensures
 
 abbrev start-2 : tie.After-write_octets-after → tie.Start
 start-2 c = start-1 c.before.before.before.before
 
-after-2 : (c : tie.After-write_octets-after) → Pieces (start-2 c) 2 c.write_octets-after.result c.write_octets-after.new.1.0
+after-2 : (c : tie.After-write_octets-after) → Pieces (start-2 c) 2 c.write_octets-after.result c.write_octets-after.new.out
 after-2 c = written-more (after-1 c.before.before.before.before) c.write_octets-after.ensures
 
 abbrev start-3 : tie.After-put_text-closing → tie.Start
-start-3 c = start-2 c.before.before.before.before.before
+start-3 c = start-2 c.before.before.before.before.before.before
 
-after-3 : (c : tie.After-put_text-closing) → Pieces (start-3 c) 3 c.put_text-closing.result c.put_text-closing.new.0
-after-3 c = written-more (after-2 c.before.before.before.before.before) c.put_text-closing.ensures
+after-3 : (c : tie.After-put_text-closing) → Pieces (start-3 c) 3 c.put_text-closing.result c.put_text-closing.new.out
+after-3 c = written-more (after-2 c.before.before.before.before.before.before) c.put_text-closing.ensures
 
 abbrev start-4 : tie.After-put_text → tie.Start
-start-4 c = start-3 c.before.before.before.before.before
+start-4 c = start-3 c.before.before.before.before.before.before
 
-after-4 : (c : tie.After-put_text) → Pieces (start-4 c) 4 c.put_text.result c.put_text.new.0
-after-4 c = written-more (after-3 c.before.before.before.before.before) c.put_text.ensures
+after-4 : (c : tie.After-put_text) → Pieces (start-4 c) 4 c.put_text.result c.put_text.new.out
+after-4 c = written-more (after-3 c.before.before.before.before.before.before) c.put_text.ensures
 
 -- what each call needs
 
@@ -58,10 +58,10 @@ write-octets-requires : tie.Need-write_octets-after-requires
 write-octets-requires c κs = let m = c.before.before.before in ((start-1 m).requires.0.small, next_fits (after-1 m))
 
 put-text-requires : tie.Need-put_text-closing-requires
-put-text-requires c κs = next_fits (after-2 c.before.before.before.before)
+put-text-requires c κs = next_fits (after-2 c.before.before.before.before.before)
 
 put-text-requires-2 : tie.Need-put_text-requires
-put-text-requires-2 c κs = next_fits (after-3 c.before.before.before.before)
+put-text-requires-2 c κs = next_fits (after-3 c.before.before.before.before.before)
 
 returns : tie.Need-returns
 returns c = written_all (after-4 c.before.before)

@@ -7,7 +7,7 @@ use Rattle.cbf_house.proofs.span.span_length.Tie as tie
 
 returns : tie.Need-returns
 returns c = (
-  λ os e. omega (arith, span-size c.before.args.d os e, c.head_length.ensures.0),
+  λ os e. omega (arith, span-size c.args.d os e, c.head_length.ensures.0),
   omega (arith, c.head_length.ensures.1),
 )
 

@@ -18,17 +18,17 @@ loop-holds : tie.Need-loop-i-init invariant-loop decreases-loop
 loop-holds c = (omega arith, omega arith, λ i h k. absurd (omega arith), omega arith)
 
 all-letters-requires : tie.Need-all_letters-requires invariant-loop decreases-loop
-all-letters-requires c κs = (omega arith, λ i h k. c.before.before.before.requires.2 i (omega arith) (omega arith))
+all-letters-requires c κs = (omega arith, λ i h k. c.requires.2 i (omega arith) (omega arith))
 
 returns : tie.Need-returns-then-not-all_letters invariant-loop decreases-loop
-returns c = c.before.before.before.loop-i.invariant
+returns c = c.loop-i.invariant
 
 loop-again : tie.Need-loop-i-preserved invariant-loop decreases-loop
 loop-again c =
-    (omega arith, omega arith, each-then c.before.before.before.loop-i.invariant.2 (c.before.all_letters.ensures (not-false _ c.if-not-all_letters.false)), omega arith)
+    (omega arith, omega arith, each-then c.loop-i.invariant.2 (c.all_letters.ensures (c.if-not-all_letters.false)), omega arith)
 
 returns-2 : tie.Need-returns invariant-loop decreases-loop
-returns-2 c = c.before.loop-i.invariant
+returns-2 c = c.loop-i.invariant
 
 pub after_letters_spec : {M : Type 1} → statement M
 after_letters_spec =

@@ -20,19 +20,19 @@ loop-holds : tie.Need-loop-j-init invariant-loop decreases-loop
 loop-holds c = (omega arith, λ e i h k. absurd (omega arith))
 
 letter-requires : tie.Need-letter-requires invariant-loop decreases-loop
-letter-requires c κs = c.before.before.before.before.requires.1 _ (omega arith) (omega arith)
+letter-requires c κs = c.requires.1 _ (omega arith) (omega arith)
 
 loop-again : tie.Need-loop-j-preserved invariant-loop decreases-loop
 loop-again c =
-    let l = c.before.before.before.before.loop-j in (
+    let l = c.loop-j in (
       omega arith,
       ⊎_elim (λ w e. absurd (true≢false (sym w.1 ∙ e)))
-          (λ w e i h k. each_next (l.invariant.1 (sym w.1 ∙ e)) (sym c.before.letter.ensures ∙ not-false _ w.0.left) i h (omega arith))
-          c.if-not-letter.branch,
+          (λ w e i h k. each_next (l.invariant.1 (sym w.1 ∙ e)) (sym c.letter.ensures ∙ not-false _ w.0.left) i h (omega arith))
+          c.if-not-letter.branch-raw,
     )
 
 returns : tie.Need-returns invariant-loop decreases-loop
-returns c e i h k = c.before.loop-j.invariant.1 (not-true _ e) i h (omega arith)
+returns c e i h k = c.loop-j.invariant.1 (not-true _ e) i h (omega arith)
 
 pub all_letters_spec : {M : Type 1} → statement M
 all_letters_spec =

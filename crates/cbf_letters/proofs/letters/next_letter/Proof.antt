@@ -10,30 +10,30 @@ use Rattle.cbf_letters.proofs.letters.next_letter.Statement.{statement}
 use Rattle.cbf_letters.proofs.letters.next_letter.Tie as tie
 
 number-of-requires : tie.Need-number_of-requires
-number-of-requires c κs = c.before.before.next_place-i.ensures.3 c.before.if-i-to.true
+number-of-requires c κs = c.next_place-i.ensures.3 c.if-i-to.true
 
 returns : tie.Need-returns-then-i-to
 returns c =
-    let a = c.before.before.before.before.before.args in
-    let i = c.before.before.before.next_place-i.result in
+    let a = c.args in
+    let i = c.next_place-i.result in
     let n = c.number_of_lem.result in
     let e = c.number_of_lem.ensures in
     record {
       low = omega arith;
       high = omega arith;
-      small = letter-small (get_or a.file.now i 0) n (omega (arith, c.before.shared_slice_known-then-i-to-1.given i)) e;
-      says = inl (omega arith, c.before.before.before.next_place-i.ensures.2 ∙ sixes-letter a.file.now i a.to (omega arith) (omega arith) n e);
+      small = letter-small (get_or a.file.now i 0) n (omega (arith, c.shared_slice_known-then-i-to-1.given i)) e;
+      says = inl (omega arith, c.next_place-i.ensures.2 ∙ sixes-letter a.file.now i a.to (omega arith) (omega arith) n e);
     }
 
 returns-2 : tie.Need-returns
 returns-2 c =
-    let a = c.before.before.before.args in
-    let q : c.before.next_place-i.result ≡ a.to = omega arith in
+    let a = c.args in
+    let q : c.next_place-i.result ≡ a.to = omega arith in
     record {
       low = omega arith;
       high = omega arith;
       small = omega arith;
-      says = inr (refl, refl, rw (q, sixes-empty) at c.before.next_place-i.ensures.2);
+      says = inr (refl, refl, rw (q, sixes-empty) at c.next_place-i.ensures.2);
     }
 
 pub next_letter_spec : {M : Type 1} → statement M

@@ -18,23 +18,23 @@ loop-holds : tie.Need-loop-i-init invariant-loop decreases-loop
 loop-holds c = (omega arith, omega arith, refl)
 
 letter-requires : tie.Need-letter-requires invariant-loop decreases-loop
-letter-requires c κs = c.before.before.before.before.requires.2 _ (omega arith) (omega arith)
+letter-requires c κs = c.requires.2 _ (omega arith) (omega arith)
 
 returns : tie.Need-returns-then-letter invariant-loop decreases-loop
-returns c = let v = c.before.before.before.before.loop-i.invariant in (v.0, v.1, v.2, λ h. sym c.before.letter.ensures ∙ c.if-letter.true)
+returns c = let v = c.loop-i.invariant in (v.0, v.1, v.2, λ h. sym c.letter.ensures ∙ c.if-letter.true)
 
 loop-again : tie.Need-loop-i-preserved invariant-loop decreases-loop
 loop-again c =
     let s = c.before.before.before.before.before.before in
-    let l = c.before.before.before.before.loop-i in (
+    let l = c.loop-i in (
       omega arith,
       omega arith,
       l.invariant.2 ∙ sixes-other s.args.file.now l.i s.args.to (omega arith)
-          (omega arith) (sym c.before.letter.ensures ∙ c.if-letter.false),
+          (omega arith) (sym c.letter.ensures ∙ c.if-letter.false),
     )
 
 returns-2 : tie.Need-returns invariant-loop decreases-loop
-returns-2 c = let v = c.before.loop-i.invariant in (v.0, v.1, v.2, λ h. absurd (omega arith))
+returns-2 c = let v = c.loop-i.invariant in (v.0, v.1, v.2, λ h. absurd (omega arith))
 
 pub next_place_spec : {M : Type 1} → statement M
 next_place_spec =

@@ -11,19 +11,19 @@ use Rattle.cbf_letters.proofs.letters.number_of.Statement.{statement}
 use Rattle.cbf_letters.proofs.letters.number_of.Tie as tie
 
 -- the number after each test
-first : (c : tie.Joined-b-gt46) → let b = c.before.args.b in (c.if-b-gt46.n ≡ lowered 46 b 3 (b + 19)) × (b + 19 ≤ c.if-b-gt46.n + 3)
-first c = by-test 46 c.before.args.b 3 (c.before.args.b + 19) c.if-b-gt46.branch (λ w. (w.0.taken, w.1)) (λ w. (w.0.left, w.1))
+first : (c : tie.Joined-b-gt46) → let b = c.args.b in (c.if-b-gt46.n ≡ lowered 46 b 3 (b + 19)) × (b + 19 ≤ c.if-b-gt46.n + 3)
+first c = by-test 46 c.args.b 3 (c.args.b + 19) c.if-b-gt46.branch-raw (λ w. (w.0.taken, w.1)) (λ w. (w.0.left, w.1))
 
-second : (c : tie.Joined-b-gt47) → (c.if-b-gt47.n ≡ lowered 47 c.before.before.args.b 12 c.before.if-b-gt46.n) × (c.before.if-b-gt46.n ≤ c.if-b-gt47.n + 12)
-second c = by-test 47 c.before.before.args.b 12 c.before.if-b-gt46.n c.if-b-gt47.branch (λ w. (w.0.taken, w.2)) (λ w. (w.0.left, w.1))
+second : (c : tie.Joined-b-gt47) → (c.if-b-gt47.n ≡ lowered 47 c.args.b 12 c.if-b-gt46.n) × (c.if-b-gt46.n ≤ c.if-b-gt47.n + 12)
+second c = by-test 47 c.args.b 12 c.if-b-gt46.n c.if-b-gt47.branch-raw (λ w. (w.0.taken, w.2)) (λ w. (w.0.left, w.1))
 
-third : (c : tie.Joined-b-gt64) → (c.if-b-gt64.n ≡ lowered 64 c.before.before.before.args.b 69 c.before.if-b-gt47.n) × (c.before.if-b-gt47.n ≤ c.if-b-gt64.n + 69)
-third c = by-test 64 c.before.before.before.args.b 69 c.before.if-b-gt47.n c.if-b-gt64.branch (λ w. (w.0.taken, w.2)) (λ w. (w.0.left, w.1))
+third : (c : tie.Joined-b-gt64) → (c.if-b-gt64.n ≡ lowered 64 c.args.b 69 c.if-b-gt47.n) × (c.if-b-gt47.n ≤ c.if-b-gt64.n + 69)
+third c = by-test 64 c.args.b 69 c.if-b-gt47.n c.if-b-gt64.branch-raw (λ w. (w.0.taken, w.2)) (λ w. (w.0.left, w.1))
 
 -- the number before the last test
-last : (c : tie.Joined-b-gt64) → let b = c.before.before.before.args.b in symbol b ≡ Letter (lowered 96 b 6 c.if-b-gt64.n)
+last : (c : tie.Joined-b-gt64) → let b = c.args.b in symbol b ≡ Letter (lowered 96 b 6 c.if-b-gt64.n)
 last c =
-    (letter-number c.before.before.before.args.b (omega arith) c.before.before.before.requires).1
+    (letter-number c.args.b (omega arith) c.requires).1
     ∙ rw ((third c).0, (second c.before).0, (first c.before.before).0)
 
 add-n : tie.Need-overflow_add-n
@@ -39,10 +39,10 @@ sub-n-4 : tie.Need-overflow_sub-n-then-b-gt96
 sub-n-4 c = let j = c.before.before in omega (arith, (third j).1, (second j.before).1, (first j.before.before).1)
 
 returns : tie.Need-returns-then-b-gt96
-returns c = let j = c.before.before in rw (lt-ltb 96 j.before.before.before.args.b c.before.if-b-gt96.true) at (last j)
+returns c = let j = c.before.before in rw (lt-ltb 96 j.args.b c.if-b-gt96.true) at (last j)
 
 returns-2 : tie.Need-returns-else-b-gt96
-returns-2 c = let j = c.before in rw (le-ltb 96 j.before.before.before.args.b c.if-b-gt96.false) at (last j)
+returns-2 c = let j = c.before in rw (le-ltb 96 j.args.b c.if-b-gt96.false) at (last j)
 
 pub number_of_spec : {M : Type 1} → statement M
 number_of_spec = tie.close (tie.spec add-n (λ c. search rules) sub-n-2 sub-n-3 sub-n-4 returns returns-2)

@@ -21,24 +21,24 @@ loop-holds : tie.Need-loop-j-init invariant-loop decreases-loop
 loop-holds c = (omega arith, refl, rw add-zero)
 
 number-of-requires : tie.Need-number_of-requires invariant-loop decreases-loop
-number-of-requires c κs = c.before.before.before.before.before.requires.1 _ (omega arith) (omega arith)
+number-of-requires c κs = c.requires.1 _ (omega arith) (omega arith)
 
 loop-again : tie.Need-loop-j-preserved invariant-loop decreases-loop
 loop-again c =
-    let s = c.before.before.before.before.before.before.args in
-    let l = c.before.before.before.loop-j in (
+    let s = c.args in
+    let l = c.loop-j in (
       omega arith,
       length-set l.numbers l.j c.number_of_lem.result ∙ l.invariant.1,
       finished-next s.file.now l.numbers s.at s.n l.j c.number_of_lem.result (omega arith) (omega arith) c.number_of_lem.ensures ∙ l.invariant.2,
     )
 
 same_length : tie.Need-shape_of-numbers invariant-loop decreases-loop
-same_length c = c.before.loop-j.invariant.1
+same_length c = c.loop-j.invariant.1
 
 returns : tie.Need-returns invariant-loop decreases-loop
 returns c =
-    let s = c.before.before.before.before.args in
-    let l = c.before.loop-j in
+    let s = c.args in
+    let l = c.loop-j in
     let q : l.j ≡ s.n = omega arith in
     rw (q, sixes-empty) at l.invariant.2
 

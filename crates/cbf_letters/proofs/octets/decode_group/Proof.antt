@@ -6,13 +6,13 @@ use Rattle.cbf_letters.proofs.octets.decode_group.Statement.{statement}
 use Rattle.cbf_letters.proofs.octets.decode_group.Tie as tie
 
 next-letter-requires-2 : tie.Need-next_letter-b-requires
-next-letter-requires-2 c κs = (omega arith, omega arith, λ i h k. c.before.before.before.requires.2 i (omega arith) k)
+next-letter-requires-2 c κs = (omega arith, omega arith, λ i h k. c.requires.2 i (omega arith) k)
 
 next-letter-requires-3 : tie.Need-next_letter-c-requires
-next-letter-requires-3 c κs = (omega arith, omega arith, λ i h k. c.before.before.before.before.requires.2 i (omega arith) k)
+next-letter-requires-3 c κs = (omega arith, omega arith, λ i h k. c.requires.2 i (omega arith) k)
 
 next-letter-requires-4 : tie.Need-next_letter-d-requires
-next-letter-requires-4 c κs = (omega arith, omega arith, λ i h k. c.before.before.before.before.before.requires.2 i (omega arith) k)
+next-letter-requires-4 c κs = (omega arith, omega arith, λ i h k. c.requires.2 i (omega arith) k)
 
 returns : tie.Need-returns
 returns c =
@@ -20,11 +20,11 @@ returns c =
     let third = last.before in
     let second = third.before in
     let first = second.before in
-    let p = first.before.before.before.requires in
+    let p = first.requires in
     decodes-group p.0 p.1 p.3 first.next_letter-a.ensures second.next_letter-b.ensures
     third.next_letter-c.ensures last.next_letter-d.ensures
     p.4
-    c.before.before.put_group.ensures
+    c.put_group.ensures
 
 pub decode_group_spec : {M : Type 1} → statement M
 decode_group_spec =

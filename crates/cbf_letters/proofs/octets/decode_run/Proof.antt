@@ -10,21 +10,21 @@ use Rattle.cbf_letters.proofs.octets.decode_run.Tie as tie
 
 after-letters-requires : tie.Need-after_letters-requires
 after-letters-requires c κs =
-    let good = c.before.before.before.before.requires.2 in
+    let good = c.requires.2 in
     (omega arith, omega arith, λ i h k. good i h (omega arith), omega arith, omega arith)
 
 after-letters-requires-2 : tie.Need-after_letters-next-requires
 after-letters-requires-2 c κs =
-    let good = c.before.before.before.before.before.requires.2 in
+    let good = c.requires.2 in
     (omega arith, omega arith, λ i h k. good i (omega arith) (omega arith), omega arith, omega arith)
 
 -- what is known of the n letters
 run : (c : tie.After-after_letters-next)
-    → let a = c.before.before.before.before.before.before.args in
+    → let a = c.args in
     LetterRun a.file.now a.at a.to (c.after_letters-next.result - a.at) a.out.now a.from
 run c =
     let t = c.before.before.before.before.before.before in
-    let p = c.before.after_letters.ensures in
+    let p = c.after_letters.ensures in
     let q = c.after_letters-next.ensures in
     let e : c.after_letters-next.result ≡ t.args.at + (c.after_letters-next.result - t.args.at) = omega arith in
     record {
@@ -33,7 +33,7 @@ run c =
       few = omega arith;
       room = omega arith;
       groups = omega arith;
-      only = rw (← e) (letters-both t.args.file.now t.args.at c.before.after_letters.result
+      only = rw (← e) (letters-both t.args.file.now t.args.at c.after_letters.result
           c.after_letters-next.result p.0 q.0 p.2 q.2);
     }
 
@@ -43,14 +43,14 @@ numbers-of-requires c κs = let r = run c.before in (omega arith, r.only, r.few)
 join-requires : tie.Need-join-requires
 join-requires c κs =
     let r = run c.before.before.before.before.before in
-    (omega arith, numbers-small r (replicate 128 0) refl c.before.before.before.Numbers-of.ensures, omega (arith, r.room))
+    (omega arith, numbers-small r (replicate 128 0) refl c.Numbers-of.ensures, omega (arith, r.room))
 
 returns : tie.Need-returns
 returns c =
     let r = run c.before.before.before.before.before.before.before.before in (
       r.groups,
       decodes-run r (replicate 128 0) refl
-          c.before.before.before.before.before.before.Numbers-of.ensures c.before.before.join.ensures,
+          c.Numbers-of.ensures c.join.ensures,
     )
 
 pub decode_run_spec : {M : Type 1} → statement M

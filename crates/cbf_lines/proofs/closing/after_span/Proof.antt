@@ -8,18 +8,18 @@ use Rattle.cbf_lines.proofs.closing.after_span.Tie as tie
 semicolon-line-requires : tie.Need-semicolon_line-requires
 semicolon-line-requires c κs =
     let s = c.before.before.before.before.before in
-    line-end-inside s.args.file.now s.args.at s.requires (sym c.before.end-1.given.1 ∙ c.before.before.before.line_end-end.ensures)
+    line-end-inside s.args.file.now s.args.at s.requires (sym c.in-At.is ∙ c.line_end-end.ensures)
 
 returns : tie.Need-returns-in-Missing
 returns c =
-    let a = c.before.before.before.before.args in
-    after-span-missing a.file.now a.limit a.at (sym c.enum_told-1.given.1 ∙ c.before.before.line_end-end.ensures)
+    let a = c.args in
+    after-span-missing a.file.now a.limit a.at (sym c.in-Missing.is ∙ c.line_end-end.ensures)
 
 returns-2 : tie.Need-returns-in-At
 returns-2 c =
-    let a = c.before.before.before.before.before.before.args in
+    let a = c.args in
     c.semicolon_line.ensures
-    ∙ after-span-next a.file.now a.limit a.at (sym c.before.before.end-1.given.1 ∙ c.before.before.before.before.line_end-end.ensures)
+    ∙ after-span-next a.file.now a.limit a.at (sym c.in-At.is ∙ c.line_end-end.ensures)
 
 pub after_span_spec : {M : Type 1} → statement M
 after_span_spec =

@@ -12,13 +12,12 @@ use Rattle.cbf_lines.proofs.closing.closed.Tie as tie
 pub closed_spec : {M : Type 1} → statement M
 closed_spec =
     -- the line end is there; what follows from what stands after the span
-    let ended : (c : tie.In-At-2) → _ = λ c. sym c.end-1.given.1 ∙ c.before.before.line_end-end.ensures in
+    let ended : (c : tie.In-At) → _ = λ c. sym c.in-At.is ∙ c.line_end-end.ensures in
     let closes : (c : tie.After-after_span-after) (r : Next) (e : c.after_span-after.result ≡ r) → _ = λ c r e. let a =
-    c.before.before.before.before.before.before.before.before.before.before.args in closed-span
+    c.args in closed-span
     a.file.now a.limit a.at (ended c.before.before.before.before.before.before) refl
-    (omega arith) (sym c.before.before.is_word.ensures ∙ not-false c.before.before.is_word.result
-    c.before.if-not-is_word.false) r (sym e ∙ c.after_span-after.ensures) in
+    (omega arith) (sym c.is_word.ensures ∙ c.if-not-is_word.false) r (sym e ∙ c.after_span-after.ensures) in
     tie.close
     (tie.spec
 
-    (λ c κs. search rules) (λ c. search rules) (λ c. search rules) (λ c. search rules) (λ c. search rules) (λ c. search rules) (λ c κs. search rules) (λ c. search rules) (λ c κs. search rules) (λ c. search rules) (λ c. search rules) (λ c. search rules) (λ c. search rules) (λ c. search rules))
+    (λ c κs. search rules) (λ c. search rules) (λ c. search rules) (λ c. let s = c.before.before.before.before.before in line-end-inside s.args.file.now s.args.at s.requires (ended c.before)) (λ c. let a = c.args in closed-short a.file.now a.limit     a.at (ended c.before.before) c.if-file-i-lt-CLOSING_LENGTH.true) (λ c. search rules) (λ c κs. search rules) (λ c. let a = c.args in closed-other     a.file.now a.limit a.at (ended c.before.before.before.before.before) refl (omega arith)     (sym c.is_word.ensures ∙ c.if-not-is_word.true)) (λ c κs. search rules) (λ c. search rules) (λ c. search rules) (λ c. let a = c.args in closed-no-end a.file.now a.limit a.at     (sym c.in-Missing.is ∙ c.line_end-end.ensures)) (λ c. closes c.before.before _ c.in-Missing-after.is) (λ c. closes c.before.before.before _ c.in-At-after.is))

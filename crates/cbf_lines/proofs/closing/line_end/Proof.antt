@@ -12,35 +12,35 @@ use Rattle.cbf_lines.proofs.closing.line_end.Tie as tie
 
 returns : tie.Need-returns-then-left-lt1
 returns c =
-    let a = c.before.args in
+    let a = c.args in
     line-end-past a.file.now a.at (omega arith)
 
 returns-2 : tie.Need-returns-then-file-at-eq10
 returns-2 c =
-    let a = c.before.before.before.args in
+    let a = c.args in
     line-end-there a.at (drop a.at a.file.now) (at-10 a.file.now a.at (omega arith) c.if-file-at-eq10.true)
 
 returns-3 : tie.Need-returns-then-file-at-ne13
 returns-3 c =
-    let a = c.before.before.before.before.before.args in
-    at_other a.file.now a.at (omega arith) c.before.before.if-file-at-eq10.false c.if-file-at-ne13.true
+    let a = c.args in
+    at_other a.file.now a.at (omega arith) c.if-file-at-eq10.false c.if-file-at-ne13.true
 
 returns-4 : tie.Need-returns-then-file-at-eq10-2
 returns-4 c =
-    let a = c.before.before.before.before.before.before.before.before.args in
+    let a = c.args in
     let s = drop a.at a.file.now in
     line-end-there a.at s
     (subst (Ends s) (two_bytes a.file.now (a.at + 1) (omega arith) c.if-file-at-eq10-2.true)
-    (at-13 a.file.now a.at (omega arith) c.before.before.before.if-file-at-ne13.false))
+    (at-13 a.file.now a.at (omega arith) c.if-file-at-ne13.false))
 
 returns-5 : tie.Need-returns
 returns-5 c =
-    let a = c.before.before.before.before.before.before.args in
+    let a = c.args in
     let s = drop a.at a.file.now in
     line-end-there a.at s
     (subst (Ends s) (⊎_elim (λ w. one_byte a.file.now (a.at + 1) (omega arith) w.2.left)
-    (λ w. no_byte a.file.now (a.at + 1) (omega arith)) c.if-left-ge2.branch)
-    (at-13 a.file.now a.at (omega arith) c.before.if-file-at-ne13.false))
+    (λ w. no_byte a.file.now (a.at + 1) (omega arith)) c.if-left-ge2.branch-raw)
+    (at-13 a.file.now a.at (omega arith) c.if-file-at-ne13.false))
 
 pub line_end_spec : {M : Type 1} → statement M
 line_end_spec =

@@ -10,14 +10,14 @@ use Rattle.cbf_lines.proofs.line.after_end.Tie as tie
 
 returns : tie.Need-returns-then-file-i-eq13
 returns c =
-    let a = c.before.before.before.before.args in
+    let a = c.args in
     let file = a.file.now in
     let e = c.after_return.ensures in
-    (e.0 ∙ sym (end-13 file a.i (omega arith) c.before.if-file-i-eq13.true), omega (arith, e.0, end-moves (hd (drop (a.i + 1) file))), e.1)
+    (e.0 ∙ sym (end-13 file a.i (omega arith) c.if-file-i-eq13.true), omega (arith, e.0, end-moves (hd (drop (a.i + 1) file))), e.1)
 
 returns-2 : tie.Need-returns
 returns-2 c =
-    let a = c.before.before.before.args in
+    let a = c.args in
     (sym (end-one a.file.now a.i (omega arith) c.if-file-i-eq13.false), omega arith, omega arith)
 
 pub after_end_spec : {M : Type 1} → statement M

@@ -9,17 +9,17 @@ use Rattle.cbf_lines.proofs.line.after_return.Tie as tie
 
 returns : tie.Need-returns-then-file-i-eq10
 returns c =
-    let a = c.before.before.before.args in
+    let a = c.args in
     let file = a.file.now in
     (ap (λ (n : ℕ). a.i + n) (sym (return-two file a.i (omega arith) c.if-file-i-eq10.true)), omega arith)
 
 returns-2 : tie.Need-returns
 returns-2 c =
-    let a = c.before.args in
+    let a = c.args in
     let file = a.file.now in (
       ap (λ (n : ℕ). a.i + n)
           (sym
-          (⊎_elim (λ w. return-one file a.i (omega arith) w.2.left) (λ w. return-end file a.i (omega arith)) c.if-file-i-ge2.branch)),
+          (⊎_elim (λ w. return-one file a.i (omega arith) w.2.left) (λ w. return-end file a.i (omega arith)) c.if-file-i-ge2.branch-raw)),
       omega arith,
     )
 

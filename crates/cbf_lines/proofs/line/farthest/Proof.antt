@@ -7,10 +7,10 @@ use Rattle.cbf_lines.proofs.line.farthest.Statement.{statement}
 use Rattle.cbf_lines.proofs.line.farthest.Tie as tie
 
 returns : tie.Need-returns-then-limit-file
-returns c = let a = c.before.args in rw (lt-ltb a.limit (length a.file.now - a.at) (omega arith))
+returns c = let a = c.args in rw (lt-ltb a.limit (length a.file.now - a.at) (omega arith))
 
 returns-2 : tie.Need-returns
-returns-2 c = let a = c.before.args in rw (le-ltb a.limit (length a.file.now - a.at) (omega arith))
+returns-2 c = let a = c.args in rw (le-ltb a.limit (length a.file.now - a.at) (omega arith))
 
 pub farthest_spec : {M : Type 1} → statement M
 farthest_spec = tie.close (tie.spec (λ c. search rules) (λ c. search rules) returns returns-2)

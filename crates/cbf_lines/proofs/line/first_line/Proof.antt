@@ -7,16 +7,16 @@ use Rattle.cbf_lines.proofs.line.first_line.Statement.{statement}
 use Rattle.cbf_lines.proofs.line.first_line.Tie as tie
 
 returns : tie.Need-returns-then-not-identified
-returns c = let a = c.before.before.before.args in first-refused a.limit a.file.now
-    c.before.identified.result c.before.identified.ensures (not-true _ c.if-not-identified.true)
+returns c = let a = c.args in first-refused a.limit a.file.now
+    c.identified.result c.identified.ensures (c.if-not-identified.true)
 
 returns-2 : tie.Need-returns
 returns-2 c =
-    let a = c.before.before.before.before.args in
+    let a = c.args in
     c.text_line.ensures
     ∙ ap (line_at 0)
-    (first-text a.limit a.file.now c.before.before.identified.result
-    c.before.before.identified.ensures (not-false _ c.before.if-not-identified.false))
+    (first-text a.limit a.file.now c.identified.result
+    c.identified.ensures (c.if-not-identified.false))
 
 pub first_line_spec : {M : Type 1} → statement M
 first_line_spec = tie.close (tie.spec (λ c κs. search rules) returns (λ c κs. search rules) returns-2)

@@ -7,40 +7,36 @@ use Rattle.cbf_lines.proofs.line.header_line.Tie as tie
 
 malformed-requires : tie.Need-malformed-requires
 malformed-requires c κs =
-    let a = c.before.before.before.before.before.args in
+    let a = c.args in
     let file = a.file.now in
-    let v = c.before.l-in-Text-1.given in
-    let l = text-passed a.limit file a.at c.before.before.before.before.before.requires v.0.0
-    v.0.1.0 (sym v.1 ∙ c.before.before.before.text_line-l.ensures) in
+    let l = text-passed a.limit file a.at c.requires c.in-Text.to
+    c.in-Text.next (sym c.in-Text.is ∙ c.text_line-l.ensures) in
     (l.low, omega arith)
 
 returns : tie.Need-returns-then-malformed
 returns c =
-    let a = c.before.before.before.before.before.before.before.args in
+    let a = c.args in
     let file = a.file.now in
-    let v = c.before.before.before.l-in-Text-1.given in
-    let l = text-passed a.limit file a.at c.before.before.before.before.before.before.before.requires
-    v.0.0 v.0.1.0 (sym v.1 ∙ c.before.before.before.before.before.text_line-l.ensures) in
-    header-malformed a.limit file a.at c.before.before.before.before.before.before.before.requires
-    a.first l (sym c.before.malformed.ensures ∙ c.if-malformed.true)
+    let l = text-passed a.limit file a.at c.requires
+    c.in-Text.to c.in-Text.next (sym c.in-Text.is ∙ c.text_line-l.ensures) in
+    header-malformed a.limit file a.at c.requires
+    a.first l (sym c.malformed.ensures ∙ c.if-malformed.true)
 
 returns-2 : tie.Need-returns-in-Refused
 returns-2 c =
-    let a = c.before.before.before.before.before.args in
+    let a = c.args in
     let file = a.file.now in
-    let v = c.before.l-1.given in
-    header_refused a.limit file a.at c.before.before.before.before.before.requires a.first
-    v.0.0.number v.0.0.place (sym v.1 ∙ c.before.before.before.text_line-l.ensures)
+    header_refused a.limit file a.at c.requires a.first
+    c.in-Refused.r.number c.in-Refused.r.place (sym c.in-Refused.is ∙ c.text_line-l.ensures)
 
 returns-3 : tie.Need-returns-else-malformed
 returns-3 c =
-    let a = c.before.before.before.before.before.before.before.args in
+    let a = c.args in
     let file = a.file.now in
-    let v = c.before.before.before.l-in-Text-1.given in
-    let l = text-passed a.limit file a.at c.before.before.before.before.before.before.before.requires
-    v.0.0 v.0.1.0 (sym v.1 ∙ c.before.before.before.before.before.text_line-l.ensures) in
-    header-text a.limit file a.at c.before.before.before.before.before.before.before.requires a.first l
-    (sym c.before.malformed.ensures ∙ c.if-malformed.false)
+    let l = text-passed a.limit file a.at c.requires
+    c.in-Text.to c.in-Text.next (sym c.in-Text.is ∙ c.text_line-l.ensures) in
+    header-text a.limit file a.at c.requires a.first l
+    (sym c.malformed.ensures ∙ c.if-malformed.false)
 
 pub header_line_spec : {M : Type 1} → statement M
 header_line_spec =

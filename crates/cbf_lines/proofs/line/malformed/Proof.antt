@@ -8,36 +8,36 @@ use Rattle.cbf_lines.proofs.line.malformed.Tie as tie
 
 returns : tie.Need-returns-then-from-to
 returns c =
-    let a = c.before.before.args in
+    let a = c.args in
     malformed-empty a.file.now a.from a.to a.first (omega arith) c.if-from-to.true
 
 returns-2 : tie.Need-returns-then-blank
 returns-2 c =
-    let a = c.before.before.before.before.before.args in
-    malformed-blank a.file.now a.from a.to a.first (omega arith) (omega arith) (sym c.before.blank.ensures ∙ c.if-blank.true)
+    let a = c.args in
+    malformed-blank a.file.now a.from a.to a.first (omega arith) (omega arith) (sym c.blank.ensures ∙ c.if-blank.true)
 
 returns-3 : tie.Need-returns-then-i-from
 returns-3 c =
-    let a = c.before.before.before.before.before.before.before.args in
+    let a = c.args in
     malformed-no-name a.file.now a.from a.to a.first (omega arith) (omega arith)
-    (sym c.before.before.before.blank.ensures ∙ c.before.before.if-blank.false)
-    c.before.after_name-i.ensures c.if-i-from.true
+    (sym c.blank.ensures ∙ c.if-blank.false)
+    c.after_name-i.ensures c.if-i-from.true
 
 returns-4 : tie.Need-returns-then-i-to
 returns-4 c =
-    let a = c.before.before.before.before.before.before.before.before.args in
+    let a = c.args in
     malformed-no-colon a.file.now a.from a.to a.first (omega arith) (omega arith)
-    (sym c.before.before.before.before.blank.ensures ∙ c.before.before.before.if-blank.false)
-    c.before.before.after_name-i.ensures c.before.if-i-from.false c.if-i-to.true
+    (sym c.blank.ensures ∙ c.if-blank.false)
+    c.after_name-i.ensures c.if-i-from.false c.if-i-to.true
 
 returns-5 : tie.Need-returns
 returns-5 c =
-    let a = c.before.before.before.before.before.before.before.before.before.args in
-    let h = c.before.before.before.after_name-i.ensures.high in
+    let a = c.args in
+    let h = c.after_name-i.ensures.high in
     malformed-at a.file.now a.from a.to a.first (omega arith) (omega arith)
-    (sym c.before.before.before.before.before.blank.ensures
-    ∙ c.before.before.before.before.if-blank.false) c.before.before.before.after_name-i.ensures
-    c.before.before.if-i-from.false (omega arith)
+    (sym c.blank.ensures
+    ∙ c.if-blank.false) c.after_name-i.ensures
+    c.if-i-from.false (omega arith)
 
 pub malformed_spec : {M : Type 1} → statement M
 malformed_spec =

@@ -15,16 +15,16 @@ abbrev decreases-loop : tie.decreases-loop-i
 decreases-loop file from to class i₀ i = to - i
 
 loop-holds : tie.Need-loop-i-init invariant-loop decreases-loop
-loop-holds c = (omega arith, run-start c.before.args.from)
+loop-holds c = (omega arith, run-start c.args.from)
 
 returns : tie.Need-returns-then-not-in_class invariant-loop decreases-loop
-returns c = run-stop c.before.before.before.before.loop-i.invariant.1 (omega arith) (λ h. sym c.before.in_class.ensures ∙ not-true _ c.if-not-in_class.true)
+returns c = run-stop c.loop-i.invariant.1 (omega arith) (λ h. sym c.in_class.ensures ∙ c.if-not-in_class.true)
 
 loop-again : tie.Need-loop-i-preserved invariant-loop decreases-loop
-loop-again c = (omega arith, run-next c.before.before.before.before.loop-i.invariant.1 (sym c.before.in_class.ensures ∙ not-false _ c.if-not-in_class.false))
+loop-again c = (omega arith, run-next c.loop-i.invariant.1 (sym c.in_class.ensures ∙ c.if-not-in_class.false))
 
 returns-2 : tie.Need-returns invariant-loop decreases-loop
-returns-2 c = run-stop c.before.loop-i.invariant.1 (omega arith) (λ h. absurd (omega arith))
+returns-2 c = run-stop c.loop-i.invariant.1 (omega arith) (λ h. absurd (omega arith))
 
 pub after_spec : {M : Type 1} → statement M
 after_spec =

@@ -13,16 +13,16 @@ abbrev decreases-loop : tie.decreases-loop-i
 decreases-loop file from to class i₀ i = to - i
 
 loop-holds : tie.Need-loop-i-init invariant-loop decreases-loop
-loop-holds c = (omega arith, run-start c.before.args.from)
+loop-holds c = (omega arith, run-start c.args.from)
 
 returns : tie.Need-returns-then-not-block invariant-loop decreases-loop
-returns c = (omega arith, c.before.before.before.loop-i.invariant.1)
+returns c = (omega arith, c.loop-i.invariant.1)
 
 loop-again : tie.Need-loop-i-preserved invariant-loop decreases-loop
-loop-again c = (omega arith, run-then c.before.before.before.loop-i.invariant.1 (c.before.block.ensures (not-false _ c.if-not-block.false)))
+loop-again c = (omega arith, run-then c.loop-i.invariant.1 (c.block.ensures (c.if-not-block.false)))
 
 returns-2 : tie.Need-returns invariant-loop decreases-loop
-returns-2 c = c.before.loop-i.invariant
+returns-2 c = c.loop-i.invariant
 
 pub after_blocks_spec : {M : Type 1} → statement M
 after_blocks_spec =

@@ -17,24 +17,24 @@ abbrev decreases-loop : tie.decreases-loop-i
 decreases-loop file from to i₀ i = to - i
 
 loop-holds : tie.Need-loop-i-init invariant-loop decreases-loop
-loop-holds c = (omega arith, run-start c.before.args.from)
+loop-holds c = (omega arith, run-start c.args.from)
 
 returns : tie.Need-returns-then-not-name_byte invariant-loop decreases-loop
-returns c = run-stop c.before.before.before.before.before.loop-i.invariant.1 (omega arith)
-    (λ h. sym c.before.name_byte.ensures ∙ not-true _ c.if-not-name_byte.true)
+returns c = run-stop c.loop-i.invariant.1 (omega arith)
+    (λ h. sym c.name_byte.ensures ∙ c.if-not-name_byte.true)
 
 returns-2 : tie.Need-returns-then-b-gt122 invariant-loop decreases-loop
-returns-2 c = run-stop c.before.before.before.before.loop-i.invariant.1 (omega arith) (λ h. past-letters _ c.before.if-b-lt97.false c.if-b-gt122.true)
+returns-2 c = run-stop c.loop-i.invariant.1 (omega arith) (λ h. past-letters _ c.if-b-lt97.false c.if-b-gt122.true)
 
 loop-again : tie.Need-loop-i-preserved invariant-loop decreases-loop
 loop-again c = (
   omega arith,
-  run-next c.before.before.before.loop-i.invariant.1
-      (⊎_elim (λ w. sym w.1.ensures ∙ not-false _ w.2.left) (λ w. small-letter _ w.0.left w.1.left) c.if-b-lt97.branch),
+  run-next c.loop-i.invariant.1
+      (⊎_elim (λ w. sym w.1.ensures ∙ not-false _ w.2.left) (λ w. small-letter _ w.0.left w.1.left) c.if-b-lt97.branch-raw),
 )
 
 returns-3 : tie.Need-returns invariant-loop decreases-loop
-returns-3 c = run-stop c.before.loop-i.invariant.1 (omega arith) (λ h. absurd (omega arith))
+returns-3 c = run-stop c.loop-i.invariant.1 (omega arith) (λ h. absurd (omega arith))
 
 pub after_name_spec : {M : Type 1} → statement M
 after_name_spec =

@@ -19,20 +19,20 @@ loop-holds : tie.Need-loop-i-init invariant-loop decreases-loop
 loop-holds c = (c.after_blocks-i.ensures.0, run-weaker c.after_blocks-i.ensures.1 plain-textual)
 
 returns : tie.Need-returns-then-b-ne9 invariant-loop decreases-loop
-returns c = run-stop c.before.before.before.before.loop-i.invariant.1 (omega arith) (λ h. text-under _ c.before.if-b-lt32.true c.if-b-ne9.true)
+returns c = run-stop c.loop-i.invariant.1 (omega arith) (λ h. text-under _ c.if-b-lt32.true c.if-b-ne9.true)
 
 returns-2 : tie.Need-returns-then-b-gt126 invariant-loop decreases-loop
-returns-2 c = run-stop c.before.before.before.before.loop-i.invariant.1 (omega arith) (λ h. text-over _ c.if-b-gt126.true)
+returns-2 c = run-stop c.loop-i.invariant.1 (omega arith) (λ h. text-over _ c.if-b-gt126.true)
 
 loop-again : tie.Need-loop-i-preserved invariant-loop decreases-loop
 loop-again c = (
   omega arith,
-  run-next c.before.before.before.loop-i.invariant.1 (⊎_elim (λ w. ap textual w.1.left)
-      (λ w. text-between _ w.0.left w.1.left) c.if-b-lt32.branch),
+  run-next c.loop-i.invariant.1 (⊎_elim (λ w. ap textual w.1.left)
+      (λ w. text-between _ w.0.left w.1.left) c.if-b-lt32.branch-raw),
 )
 
 returns-3 : tie.Need-returns invariant-loop decreases-loop
-returns-3 c = run-stop c.before.loop-i.invariant.1 (omega arith) (λ h. absurd (omega arith))
+returns-3 c = run-stop c.loop-i.invariant.1 (omega arith) (λ h. absurd (omega arith))
 
 pub after_text_spec : {M : Type 1} → statement M
 after_text_spec =

@@ -17,19 +17,19 @@ abbrev decreases-loop : tie.decreases-loop-j
 decreases-loop file at class other₀ j₀ other j = 16 - j
 
 loop-holds : tie.Need-loop-j-init invariant-loop decreases-loop
-loop-holds c = (omega arith, λ e. run-to (run-start c.before.args.at) _ (omega arith))
+loop-holds c = (omega arith, λ e. run-to (run-start c.args.at) _ (omega arith))
 
 loop-again : tie.Need-loop-j-preserved invariant-loop decreases-loop
 loop-again c =
-    let l = c.before.before.before.before.loop-j in (
+    let l = c.loop-j in (
       omega arith,
       ⊎_elim (λ w e. absurd (true≢false (sym w.1 ∙ e)))
-          (λ w e. run-to (run-next (l.invariant.1 (sym w.1 ∙ e)) (sym c.before.in_class.ensures ∙ not-false _ w.0.left)) _ (omega arith))
-          c.if-not-in_class.branch,
+          (λ w e. run-to (run-next (l.invariant.1 (sym w.1 ∙ e)) (sym c.in_class.ensures ∙ not-false _ w.0.left)) _ (omega arith))
+          c.if-not-in_class.branch-raw,
     )
 
 returns : tie.Need-returns invariant-loop decreases-loop
-returns c e = run-to (c.before.loop-j.invariant.1 (not-true _ e)) _ (omega arith)
+returns c e = run-to (c.loop-j.invariant.1 (not-true _ e)) _ (omega arith)
 
 pub block_spec : {M : Type 1} → statement M
 block_spec =

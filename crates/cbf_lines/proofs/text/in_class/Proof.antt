@@ -12,19 +12,19 @@ by-class : {class k : Class} (b : ℕ) {r : Bool} → class ≡ k → r ≡ in_c
 by-class b e h = h ∙ sym (ap (λ (k : Class). in_class k b) e)
 
 returns : tie.Need-returns-in-Blank
-returns c = by-class c.before.before.before.args.b c.before.enum_told-1.given.1 c.blank.ensures
+returns c = by-class c.args.b c.in-Blank.is c.blank.ensures
 
 returns-2 : tie.Need-returns-in-NotBlank
-returns-2 c = by-class c.before.before.before.args.b c.before.enum_told-in-NotBlank-1.given.1 (ap not c.blank-in-NotBlank.ensures)
+returns-2 c = by-class c.args.b c.in-NotBlank.is (ap not c.blank-in-NotBlank.ensures)
 
 returns-3 : tie.Need-returns-in-Not
-returns-3 c = by-class c.before.before.before.args.b c.before.class-1.given.1 refl
+returns-3 c = by-class c.args.b c.in-Not.is refl
 
 returns-4 : tie.Need-returns-in-Plain
-returns-4 c = by-class c.before.before.before.args.b c.before.enum_told-in-Plain-1.given.1 c.plain.ensures
+returns-4 c = by-class c.args.b c.in-Plain.is c.plain.ensures
 
 returns-5 : tie.Need-returns-in-Base64Letter
-returns-5 c = by-class c.before.before.before.args.b c.before.enum_told-in-Base64Letter-1.given.1 c.base64_letter.ensures
+returns-5 c = by-class c.args.b c.in-Base64Letter.is c.base64_letter.ensures
 
 pub in_class_spec : {M : Type 1} → statement M
 in_class_spec =

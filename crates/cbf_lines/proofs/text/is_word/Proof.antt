@@ -17,9 +17,9 @@ decreases-loop file from to word i₀ i = length word - i
 
 returns : tie.Need-returns-then-to-from invariant-loop decreases-loop
 returns c =
-    let a = c.before.args in
+    let a = c.args in
     let s = slice a.from a.to a.file.now in
-    let l = length-slice a.from a.to a.file.now c.before.requires.1 in
+    let l = length-slice a.from a.to a.file.now c.requires.1 in
     sym (same-lengths s a.word.now (λ e. c.if-to-from.true (sym l ∙ e)))
 
 loop-holds : tie.Need-loop-i-init invariant-loop decreases-loop
@@ -27,21 +27,21 @@ loop-holds c = (omega arith, refl)
 
 returns-2 : tie.Need-returns-then-file-from invariant-loop decreases-loop
 returns-2 c =
-    let a = c.before.before.before.before.before.before.args in
+    let a = c.args in
     let s = slice a.from a.to a.file.now in
-    let l = length-slice a.from a.to a.file.now c.before.before.before.before.before.before.requires.1 in
-    let i = c.before.before.before.before.loop-i.i in
-    let v = c.before.before.before.before.loop-i.invariant.1 in
+    let l = length-slice a.from a.to a.file.now c.requires.1 in
+    let i = c.loop-i.i in
+    let v = c.loop-i.invariant.1 in
     sym (compared-not false s a.word.now i v (omega arith) (omega arith)
     (λ e. c.if-file-from.true (sym (get_or-slice a.from a.to a.file.now i (omega arith)) ∙ e)))
 
 loop-again : tie.Need-loop-i-preserved invariant-loop decreases-loop
 loop-again c =
-    let a = c.before.before.before.before.before.before.args in
+    let a = c.args in
     let s = slice a.from a.to a.file.now in
-    let l = length-slice a.from a.to a.file.now c.before.before.before.before.before.before.requires.1 in
-    let i = c.before.before.before.before.loop-i.i in
-    let v = c.before.before.before.before.loop-i.invariant.1 in (
+    let l = length-slice a.from a.to a.file.now c.requires.1 in
+    let i = c.loop-i.i in
+    let v = c.loop-i.invariant.1 in (
       omega arith,
       compared-next false s a.word.now i v (omega arith) (omega arith) (get_or-slice a.from a.to
           a.file.now i (omega arith) ∙ c.if-file-from.false),
@@ -49,11 +49,11 @@ loop-again c =
 
 returns-3 : tie.Need-returns invariant-loop decreases-loop
 returns-3 c =
-    let a = c.before.before.before.args in
+    let a = c.args in
     let s = slice a.from a.to a.file.now in
-    let l = length-slice a.from a.to a.file.now c.before.before.before.requires.1 in
-    let i = c.before.loop-i.i in
-    let v = c.before.loop-i.invariant.1 in
+    let l = length-slice a.from a.to a.file.now c.requires.1 in
+    let i = c.loop-i.i in
+    let v = c.loop-i.invariant.1 in
     sym (compared-end false s a.word.now i v (omega arith) (omega arith))
 
 pub is_word_spec : {M : Type 1} → statement M

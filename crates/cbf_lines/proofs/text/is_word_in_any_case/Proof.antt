@@ -19,9 +19,9 @@ decreases-loop file from to word differs₀ i₀ differs i = length word - i
 
 returns : tie.Need-returns-then-to-from invariant-loop decreases-loop
 returns c =
-    let a = c.before.before.before.args in
+    let a = c.args in
     let s = lowers (slice a.from a.to a.file.now) in
-    let l = length-lowered a.from a.to a.file.now c.before.before.before.requires.1 in
+    let l = length-lowered a.from a.to a.file.now c.requires.1 in
     sym (same-lengths a.word.now s (λ e. c.if-to-from.true (sym l ∙ sym e)))
 
 loop-holds : tie.Need-loop-i-init invariant-loop decreases-loop
@@ -33,14 +33,14 @@ loop-again c =
     let a = st.args in
     let s = lowers (slice a.from a.to a.file.now) in
     let n = length-lowered a.from a.to a.file.now st.requires.1 in
-    let l = c.before.before.before.before.before.loop-i in
+    let l = c.loop-i in
     let q = lowers_at a.from a.to a.file.now l.i (omega arith) in
-    let e = c.before.before.lower.ensures in (
+    let e = c.lower.ensures in (
       omega arith,
       ⊎_elim
           (λ w. rw w.1 (compared-not l.differs a.word.now s l.i l.invariant.1 (omega arith) (omega arith) (λ p. w.0.taken (e ∙ sym (p ∙ q)))))
           (λ w. rw w.1 (compared-next l.differs a.word.now s l.i l.invariant.1 (omega arith) (omega arith) (sym (q ∙ sym e ∙ w.0.left))))
-          c.if-lower-word.branch,
+          c.if-lower-word.branch-raw,
     )
 
 returns-2 : tie.Need-returns invariant-loop decreases-loop
@@ -49,7 +49,7 @@ returns-2 c =
     let a = st.args in
     let s = lowers (slice a.from a.to a.file.now) in
     let n = length-lowered a.from a.to a.file.now st.requires.1 in
-    let l = c.before.loop-i in
+    let l = c.loop-i in
     sym (compared-end l.differs a.word.now s l.i l.invariant.1 (omega arith) (omega arith))
 
 pub is_word_in_any_case_spec : {M : Type 1} → statement M

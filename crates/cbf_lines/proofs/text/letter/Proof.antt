@@ -7,10 +7,10 @@ use Rattle.cbf_lines.proofs.text.letter.Statement.{statement}
 use Rattle.cbf_lines.proofs.text.letter.Tie as tie
 
 returns : tie.Need-returns-then-l-lt97
-returns c = let l = c.before.lower-l.result in sym (letter-lower c.before.before.args.b l c.before.lower-l.ensures ∙ rw (lt-leb 97 l (omega arith)))
+returns c = let l = c.lower-l.result in sym (letter-lower c.args.b l c.lower-l.ensures ∙ rw (lt-leb 97 l (omega arith)))
 
 returns-2 : tie.Need-returns
-returns-2 c = let l = c.before.lower-l.result in sym (letter-lower c.before.before.args.b l c.before.lower-l.ensures ∙ rw (le-leb 97 l (omega arith)))
+returns-2 c = let l = c.lower-l.result in sym (letter-lower c.args.b l c.lower-l.ensures ∙ rw (le-leb 97 l (omega arith)))
 
 pub letter_spec : {M : Type 1} → statement M
 letter_spec = tie.close (tie.spec (λ c κs. search rules) returns returns-2)

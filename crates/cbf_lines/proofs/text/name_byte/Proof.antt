@@ -10,28 +10,28 @@ use Rattle.cbf_lines.proofs.text.name_byte.Tie as tie
 
 returns : tie.Need-returns-then-letter
 returns c =
-    let b = c.before.before.args.b in
-    sym (ap (λ (t : Bool). t || (digit b || eqb b 45)) (sym c.before.letter.ensures ∙ c.if-letter.true))
+    let b = c.args.b in
+    sym (ap (λ (t : Bool). t || (digit b || eqb b 45)) (sym c.letter.ensures ∙ c.if-letter.true))
 
 returns-2 : tie.Need-returns-then-b-eq45
 returns-2 c =
-    let b = c.before.before.before.args.b in
-    sym (ap (λ (t : Bool). t || (digit b || eqb b 45)) (sym c.before.before.letter.ensures
-    ∙ c.before.if-letter.false) ∙ rw (lt-leb 48 b (omega arith), eq-eqb b 45 c.if-b-eq45.true))
+    let b = c.args.b in
+    sym (ap (λ (t : Bool). t || (digit b || eqb b 45)) (sym c.letter.ensures
+    ∙ c.if-letter.false) ∙ rw (lt-leb 48 b (omega arith), eq-eqb b 45 c.if-b-eq45.true))
 
 returns-3 : tie.Need-returns-then-b-lt48
 returns-3 c =
-    let b = c.before.before.before.before.args.b in
-    sym (ap (λ (t : Bool). t || (digit b || eqb b 45)) (sym c.before.before.before.letter.ensures
-    ∙ c.before.before.if-letter.false) ∙ rw (lt-leb 48 b (omega arith), ne_eqb b 45 c.before.if-b-eq45.false))
+    let b = c.args.b in
+    sym (ap (λ (t : Bool). t || (digit b || eqb b 45)) (sym c.letter.ensures
+    ∙ c.if-letter.false) ∙ rw (lt-leb 48 b (omega arith), ne_eqb b 45 c.if-b-eq45.false))
 
 returns-4 : tie.Need-returns
 returns-4 c =
-    let b = c.before.before.before.before.args.b in
-    sym (ap (λ (t : Bool). t || (digit b || eqb b 45)) (sym c.before.before.before.letter.ensures
-    ∙ c.before.before.if-letter.false) ∙ rw (
+    let b = c.args.b in
+    sym (ap (λ (t : Bool). t || (digit b || eqb b 45)) (sym c.letter.ensures
+    ∙ c.if-letter.false) ∙ rw (
       le-leb 48 b (omega arith),
-      ne_eqb b 45 c.before.if-b-eq45.false,
+      ne_eqb b 45 c.if-b-eq45.false,
       or-false,
     ))
 

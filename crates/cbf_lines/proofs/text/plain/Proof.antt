@@ -4,10 +4,10 @@ use Rattle.cbf_lines.proofs.text.plain.Statement.{statement}
 use Rattle.cbf_lines.proofs.text.plain.Tie as tie
 
 returns : tie.Need-returns-then-b-lt32
-returns c = rw (lt-leb 32 c.before.args.b (omega arith))
+returns c = rw (lt-leb 32 c.args.b (omega arith))
 
 returns-2 : tie.Need-returns
-returns-2 c = rw (le-leb 32 c.before.args.b (omega arith))
+returns-2 c = rw (le-leb 32 c.args.b (omega arith))
 
 pub plain_spec : {M : Type 1} → statement M
 plain_spec = tie.close (tie.spec returns returns-2)

@@ -18,75 +18,75 @@ decreases-loop file limit out₀ writing cursor₀ at₀ out cursor at = length 
 
 loop-holds : tie.Need-loop-cursor-init invariant-loop decreases-loop
 loop-holds c =
-    let a = c.before.before.args in
-    let p = c.before.before.requires in
+    let a = c.args in
+    let p = c.requires in
     listed_start a.limit a.file.now a.out.now a.writing a.c p.0 p.2
 
 same_length : tie.Need-shape_of-out-in-Refused invariant-loop decreases-loop
-same_length c = listed_kept c.before.before.before.before.before.before.loop-cursor.invariant
+same_length c = listed_kept c.loop-cursor.invariant
 
 returns : tie.Need-returns-in-Refused invariant-loop decreases-loop
 returns c =
-    let p = c.before.before.before.before.before.before.before.before.before.requires in
-    listed-refused c.before.before.before.before.before.before.loop-cursor.invariant
-    c.before.before.before.next_section-next.ensures p.3 c.before.next-1.given.1
+    let p = c.requires in
+    listed-refused c.loop-cursor.invariant
+    c.next_section-next.ensures p.3 c.in-Refused.is
 
 same-length-2 : tie.Need-shape_of-out-in-End invariant-loop decreases-loop
-same-length-2 c = listed_kept c.before.before.before.before.before.loop-cursor.invariant
+same-length-2 c = listed_kept c.loop-cursor.invariant
 
 returns-2 : tie.Need-returns-in-End invariant-loop decreases-loop
-returns-2 c = listed-end c.before.before.before.before.before.loop-cursor.invariant c.before.before.next_section-next.ensures c.enum_told-1.given.1
+returns-2 c = listed-end c.loop-cursor.invariant c.next_section-next.ensures c.in-End.is
 
 put-line-requires : tie.Need-put_line-at-requires invariant-loop decreases-loop
 put-line-requires c κs =
     let t = c.before.before.before in
-    let k = t.before.before.before.before.before.loop-cursor.invariant in
-    let p = t.before.before.before.before.before.before.before.before.requires in
-    let b = listed-block k t.before.before.next_section-next.ensures t.next-in-Found-1.given.1 in
-    (b.0, b.1, listed-room k t.before.before.next_section-next.ensures t.next-in-Found-1.given.1 p.3 c.before.if-writing.true)
+    let k = t.loop-cursor.invariant in
+    let p = t.requires in
+    let b = listed-block k t.next_section-next.ensures t.in-Found.is in
+    (b.0, b.1, listed-room k t.next_section-next.ensures t.in-Found.is p.3 c.if-writing.true)
 
 line-length-requires : tie.Need-line_length-at-requires invariant-loop decreases-loop
 line-length-requires c κs =
     let t = c.before.before in
-    let b = listed-block t.before.before.before.before.before.loop-cursor.invariant t.before.before.next_section-next.ensures t.next-in-Found-1.given.1 in
+    let b = listed-block t.loop-cursor.invariant t.next_section-next.ensures t.in-Found.is in
     omega (arith, b)
 
 add_at : tie.Need-overflow_add-at invariant-loop decreases-loop
 add_at c =
-    let k = c.before.before.before.before.before.before.before.before.loop-cursor.invariant in
+    let k = c.loop-cursor.invariant in
     omega (arith, k.bound, k.here.come.ready.few, c.line_length-at.ensures.1)
 
 loop-less : tie.Need-loop-cursor-smaller-then-writing invariant-loop decreases-loop
 loop-less c =
     let t = c.before.before.before.before.before.before in
-    loop-onward t.before.before.before.before.before.loop-cursor.invariant.here
-    t.before.before.next_section-next.ensures t.next-in-Found-1.given.1 t.before.before.before.loop-cursor-test.true
+    loop-onward t.loop-cursor.invariant.here
+    t.next_section-next.ensures t.in-Found.is t.loop-cursor-test.true
 
 loop-again : tie.Need-loop-cursor-preserved-then-writing invariant-loop decreases-loop
 loop-again c =
     let t = c.before.before.before.before.before.before in
-    listed-written t.before.before.before.before.before.loop-cursor.invariant t.before.before.next_section-next.ensures
-    t.next-in-Found-1.given.1 c.before.before.before.before.if-writing.true c.before.before.put_line-at.ensures
+    listed-written t.loop-cursor.invariant t.next_section-next.ensures
+    t.in-Found.is c.if-writing.true c.put_line-at.ensures
 
 loop-less-2 : tie.Need-loop-cursor-smaller invariant-loop decreases-loop
 loop-less-2 c =
     let t = c.before.before.before in
-    loop-onward t.before.before.before.before.before.loop-cursor.invariant.here
-    t.before.before.next_section-next.ensures t.next-in-Found-1.given.1 t.before.before.before.loop-cursor-test.true
+    loop-onward t.loop-cursor.invariant.here
+    t.next_section-next.ensures t.in-Found.is t.loop-cursor-test.true
 
 loop-again-2 : tie.Need-loop-cursor-preserved invariant-loop decreases-loop
 loop-again-2 c =
     let t = c.before.before.before in
-    let k = t.before.before.before.before.before.loop-cursor.invariant in
-    let b = listed-block k t.before.before.next_section-next.ensures t.next-in-Found-1.given.1 in
-    let a = t.before.before.before.before.before.before.before.before.args in
-    listed-measured k t.before.before.next_section-next.ensures t.next-in-Found-1.given.1 c.before.if-writing.false (c.line_length-at.ensures.0 a.file.now b.1)
+    let k = t.loop-cursor.invariant in
+    let b = listed-block k t.next_section-next.ensures t.in-Found.is in
+    let a = t.args in
+    listed-measured k t.next_section-next.ensures t.in-Found.is c.if-writing.false (c.line_length-at.ensures.0 a.file.now b.1)
 
 same-length-3 : tie.Need-shape_of-out invariant-loop decreases-loop
-same-length-3 c = listed_kept c.before.before.loop-cursor.invariant
+same-length-3 c = listed_kept c.loop-cursor.invariant
 
 returns-3 : tie.Need-returns invariant-loop decreases-loop
-returns-3 c = listed-past c.before.before.loop-cursor.invariant c.before.before.before.before.before.requires.1 c.loop-cursor-test.false
+returns-3 c = listed-past c.loop-cursor.invariant c.requires.1 c.loop-cursor-test.false
 
 pub lines_from_spec : {M : Type 1} → statement M
 lines_from_spec =

@@ -12,9 +12,9 @@ returns : tie.Need-returns-in-Length
 returns c =
     let b = c.before in
     let m = b.before.before.before.before in
-    let a = m.before.before.before.before.args in
-    let e = sym (ap outcome b.answer-1.given.1) ∙ m.list-answer.ensures.0 in
-    let q = shown-listing (F.read a.limit a.file.now) (length a.out.now) b.answer-1.given.0.0 e in
+    let a = m.args in
+    let e = sym (ap outcome b.in-Length.is) ∙ m.list-answer.ensures.0 in
+    let q = shown-listing (F.read a.limit a.file.now) (length a.out.now) b.in-Length.n e in
     rw (q.0, ← q.1) (e, m.list-answer.ensures.1)
 
 returns-2 : tie.Need-returns-in-Refused
@@ -22,10 +22,9 @@ returns-2 c =
     let w = c.before.before in
     let b = w.before.before.before in
     let m = b.before.before.before.before in
-    let a = m.before.before.before.before.args in
-    let f = b.answer-in-Refused-1.given.0.0 in
-    let e = sym (ap outcome b.answer-in-Refused-1.given.1) ∙ m.list-answer.ensures.0 in
-    let q = shown-refusal (F.read a.limit a.file.now) a.out.now f.number f.place e m.list-answer.ensures.1 in
+    let a = m.args in
+    let e = sym (ap outcome b.in-Refused.is) ∙ m.list-answer.ensures.0 in
+    let q = shown-refusal (F.read a.limit a.file.now) a.out.now b.in-Refused.r.number b.in-Refused.r.place e m.list-answer.ensures.1 in
     rw q.0 (rw q.1 at w.refusal_line.ensures)
 
 pub listing_or_refusal_spec : {M : Type 1} → statement M

@@ -13,11 +13,11 @@ use Rattle.cbf_listing.proofs.listing.refusal_line.Tie as tie
 
 returns : tie.Need-returns-then-out-n
 returns c =
-    let a = c.before.before.before.before.before.before.args in
+    let a = c.args in
     let k = a.refusal.number in
     let p = a.refusal.place in
     let r = no_room (listing (refused k p)) a.out.now refl (omega (arith, refusal-length k p))
-    c.before.if-out-n.true in
+    c.if-out-n.true in
     (c.refused.ensures ∙ r.0, r.1)
 
 returns-2 : tie.Need-returns
@@ -28,11 +28,11 @@ returns-2 c =
     let t2 = t3.before.before.before.before.before in
     let t1 = t2.before.before.before.before in
     let b = t1.before.before.before in
-    let a = b.before.before.before.before.before.args in
+    let a = b.args in
     let k = a.refusal.number in
     let p = a.refusal.place in
-    let d1 = b.before.before.digit_count in
-    let d2 = b.before.digit_count-2 in
+    let d1 = b.digit_count in
+    let d2 = b.digit_count-2 in
     let e : length (listing (refused k p)) ≡ 13 + d1.result + d2.result = rw (d1.ensures.0, d2.ensures.0) (refusal-length k p) in
     let r = has_room (listing (refused k p)) a.out.now refl (sym e) b.if-out-n.false in
     let q = refusal-put a.out.now k p t1.put_text-after_word.ensures t2.put_number-after_number.ensures t3.put_text-after_at.ensures

@@ -15,14 +15,14 @@ put-number-requires c κs =
 put-text-requires : tie.Need-put_text-requires
 put-text-requires c κs =
     let s = c.before.before.before.before.before.before.before in
-    rest-fits s.args.out.now s.args.at (printed s.args.n) (32 ∷ []) s.requires c.before.before.before.before.put_number-end.ensures
+    rest-fits s.args.out.now s.args.at (printed s.args.n) (32 ∷ []) s.requires c.put_number-end.ensures
 
 returns : tie.Need-returns
 returns c =
     let s = c.before.before.before.before.before.before.before.before.before.before in
     put_both s.args.out.now s.args.at (printed s.args.n) (32 ∷ [])
-    c.before.before.before.before.before.before.before.put_number-end.ensures
-    c.before.before.put_text.ensures
+    c.put_number-end.ensures
+    c.put_text.ensures
 
 pub put_figure_spec : {M : Type 1} → statement M
 put_figure_spec =

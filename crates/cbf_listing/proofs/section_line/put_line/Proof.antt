@@ -45,65 +45,65 @@ module _ (s : tie.Start) where
 -- the room that is left after a piece
 
 left-1 : (c : tie.After-put_figures-after_figures) → c.put_figures-after_figures.result + length
-    (after-numbers c.before.before.before.before.before.before) ≤ length c.put_figures-after_figures.new.0
+    (after-numbers c.before.before.before.before.before.before) ≤ length c.put_figures-after_figures.new.out
 left-1 c = let s = c.before.before.before.before.before.before in rest-fits s.args.out.now s.args.at
     (numbers s) (after-numbers s) (fits s) c.put_figures-after_figures.ensures
 
 left-2 : (c : tie.After-put_compression-after_compression) → c.put_compression-after_compression.result + length
     (after-compression c.before.before.before.before.before.before.before.before.before.before) ≤ length
-    c.put_compression-after_compression.new.0
+    c.put_compression-after_compression.new.out
 left-2 c =
     let s = c.before.before.before.before.before.before.before.before.before.before in
-    let p = c.before.before.before.before.put_figures-after_figures in
-    rest-fits p.new.0 p.result (compression s) (after-compression s) (left-1 c.before.before.before.before) c.put_compression-after_compression.ensures
+    let p = c.put_figures-after_figures in
+    rest-fits p.new.out p.result (compression s) (after-compression s) (left-1 c.before.before.before.before) c.put_compression-after_compression.ensures
 
 left-3 : (c : tie.After-put_type-after_type) → c.put_type-after_type.result + length
-    (after-type c.before.before.before.before.before.before.before.before.before.before.before.before.before.before) ≤ length c.put_type-after_type.new.0
+    (after-type c.before.before.before.before.before.before.before.before.before.before.before.before.before.before) ≤ length c.put_type-after_type.new.out
 left-3 c =
     let s = c.before.before.before.before.before.before.before.before.before.before.before.before.before.before in
-    let p = c.before.before.before.before.put_compression-after_compression in
-    rest-fits p.new.0 p.result (type s) (after-type s) (left-2 c.before.before.before.before) c.put_type-after_type.ensures
+    let p = c.put_compression-after_compression in
+    rest-fits p.new.out p.result (type s) (after-type s) (left-2 c.before.before.before.before) c.put_type-after_type.ensures
 
 put-figures-requires : tie.Need-put_figures-after_figures-requires
 put-figures-requires c κs = let s = c.before.before.before.before.before in first_fits s.args.at (numbers s) (after-numbers s) (fits s)
 
 put-compression-requires : tie.Need-put_compression-after_compression-requires
 put-compression-requires c κs = let s = c.before.before.before.before.before.before.before.before.before in
-    first_fits c.before.before.before.put_figures-after_figures.result (compression s) (after-compression s)
+    first_fits c.put_figures-after_figures.result (compression s) (after-compression s)
     (left-1 c.before.before.before)
 
 put-type-requires : tie.Need-put_type-after_type-requires
-put-type-requires c κs = let s = c.before.before.before.before.before.before.before.before.before.before.before.before.before in first_fits c.before.before.before.put_compression-after_compression.result (type s) (after-type s)
+put-type-requires c κs = let s = c.before.before.before.before.before.before.before.before.before.before.before.before.before in first_fits c.put_compression-after_compression.result (type s) (after-type s)
     (left-2 c.before.before.before)
 
 put-name-requires : tie.Need-put_name-after_name-requires
 put-name-requires c κs =
     let s = c.before.before.before.before.before.before.before.before.before.before.before.before.before.before.before.before.before in
-    (s.requires.0, s.requires.1, first_fits c.before.before.before.put_type-after_type.result (name s) (10 ∷ []) (left-3 c.before.before.before))
+    (s.requires.0, s.requires.1, first_fits c.put_type-after_type.result (name s) (10 ∷ []) (left-3 c.before.before.before))
 
 put-text-requires : tie.Need-put_text-requires
 put-text-requires c κs =
     let s = c.before.before.before.before.before.before.before.before.before.before.before.before.before.before.before.before.before.before.before.before.before.before in
-    let p = c.before.before.before.before.before.before.before.before.put_type-after_type in
-    rest-fits p.new.0 p.result (name s) (10 ∷ [])
-    (left-3 c.before.before.before.before.before.before.before.before)
-    c.before.before.before.before.put_name-after_name.ensures
+    let p = c.put_type-after_type in
+    rest-fits p.new.out p.result (name s) (10 ∷ [])
+    (left-3 c.before.before.before.before.before.before.before.before.before)
+    c.put_name-after_name.ensures
 
 returns : tie.Need-returns
 returns c =
     let s = c.before.before.before.before.before.before.before.before.before.before.before.before.before.before.before.before.before.before.before.before.before.before.before.before.before in
     let out = s.args.out.now in
     let at = s.args.at in
-    let p = c.before.before.before.before.before.before.before.before.before.before.before.before.before.before.before.before.before.before.before.put_figures-after_figures in
-    let q = c.before.before.before.before.before.before.before.before.before.before.before.before.before.before.before.put_compression-after_compression in
-    let r = c.before.before.before.before.before.before.before.before.before.before.before.put_type-after_type in
+    let p = c.put_figures-after_figures in
+    let q = c.put_compression-after_compression in
+    let r = c.put_type-after_type in
     rw (pieces s)
     (put_both out at (numbers s) (after-numbers s) p.ensures
     (put_both p.last.0 p.result (compression s) (after-compression s) q.ensures
-    (put_both q.new.0 q.result (type s) (after-type s) r.ensures
-    (put_both r.new.0 r.result (name s) (10 ∷ [])
-    c.before.before.before.before.before.before.before.put_name-after_name.ensures
-    c.before.before.put_text.ensures))))
+    (put_both q.new.out q.result (type s) (after-type s) r.ensures
+    (put_both r.new.out r.result (name s) (10 ∷ [])
+    c.put_name-after_name.ensures
+    c.put_text.ensures))))
 
 pub put_line_spec : {M : Type 1} → statement M
 put_line_spec =

@@ -26,7 +26,7 @@ module _ (s : tie.Start) where
 
 returns : tie.Need-returns-then-from-to
 returns c =
-    let a = c.before.before.before.args in
+    let a = c.args in
     rw (name-empty a.file.now a.from a.to c.if-from-to.true) (omega arith, refl)
 
 put-text-requires : tie.Need-put_text-after_space-requires
@@ -38,8 +38,8 @@ put-text-requires-2 : tie.Need-put_text-requires
 put-text-requires-2 c κs =
     let s = c.before.before.before.before.before.before.before.before.before.before in
     rest-fits s.args.out.now s.args.at (32 ∷ []) (part s)
-    (fits s (omega (arith, c.before.before.before.before.before.before.before.if-from-to.false)))
-    c.before.before.before.before.put_text-after_space.ensures
+    (fits s (omega (arith, c.if-from-to.false)))
+    c.put_text-after_space.ensures
 
 returns-2 : tie.Need-returns
 returns-2 c =
@@ -47,10 +47,10 @@ returns-2 c =
     let out = s.args.out.now in
     rw (pieces s (omega (
       arith,
-      c.before.before.before.before.before.before.before.before.before.before.if-from-to.false,
+      c.if-from-to.false,
     ))) (put_both out s.args.at (32 ∷ []) (part s)
-    c.before.before.before.before.before.before.before.put_text-after_space.ensures
-    c.before.before.put_text.ensures)
+    c.put_text-after_space.ensures
+    c.put_text.ensures)
 
 pub put_name_spec : {M : Type 1} → statement M
 put_name_spec =

@@ -8,10 +8,10 @@ use Rattle.cbf_measure.proofs.measure.above.Tie as tie
 
 -- a word in 64 bits
 widened : (z : ℤ) → SFits w32 z → SFits w64 (to_z w32 (of_z w32 z))
-widened z f = record { sfits = subst (λ (y : ℤ). mag y < 2 ^ 63) (sym (to_z-of_z f)) (omega (arith, f.sfits)) }
+widened z f = record { sfits = subst (λ (y : ℤ). mag y < 2 ^ 63) (sym (to_z-of_z {w = w64} f)) (omega (arith, f.sfits)) }
 
 widened_is : (z : ℤ) → SFits w32 z → to_z w64 (of_z w64 (to_z w32 (of_z w32 z))) ≡ z
-widened_is z f = to_z-of_z (widened z f) ∙ to_z-of_z f
+widened_is z f = to_z-of_z {w = w64} (widened z f) ∙ to_z-of_z {w = w64} f
 
 cast-result : tie.Need-overflow_cast-result
 cast-result c = widened c.args.y c.ranges.y
@@ -30,7 +30,7 @@ sub-result c = record { sfits = subst (λ (y : ℤ). mag y < 2 ^ 63) (sym (both 
 
 is : (c : tie.Start)
     → to_z w64 (of_z w64 (to_z w64 (of_z w64 (to_z w32 (of_z w32 c.args.y))) -ℤ to_z w64 (of_z w64 (to_z w32 (of_z w32 c.args.z))))) ≡ c.args.y -ℤ c.args.z
-is c = to_z-of_z (sub-result c) ∙ both c
+is c = to_z-of_z {w = w64} (sub-result c) ∙ both c
 
 cast-result-3 : tie.Need-overflow_cast-result-3
 cast-result-3 c = unsigned-32 _ (nat_abs (c.args.y -ℤ c.args.z)) (is c ∙ not-below c.args.y c.args.z c.requires) (small c)

@@ -8,13 +8,13 @@ use Rattle.cbf_measure.proofs.measure.all_typed.Statement.{statement}
 use Rattle.cbf_measure.proofs.measure.all_typed.Tie as tie
 
 -- the greatest pixel, as the machine holds it
-held-greatest : (c : tie.After-greatest_of-top) → to_z w64 (of_z w64 c.greatest_of-top.result) ≡ greatest c.before.before.args.kind
+held-greatest : (c : tie.After-greatest_of-top) → to_z w64 (of_z w64 c.greatest_of-top.result) ≡ greatest c.args.kind
 held-greatest c =
-    let t = c.before.before.args.kind in
+    let t = c.args.kind in
     ap (λ (z : ℤ). to_z w64 (of_z w64 z)) c.greatest_of-top.ensures ∙ held (greatest t) (omega (arith, greatest-small t))
 
-held-limit : (c : tie.After-greatest_of-top) → Limit (least c.before.before.args.kind) (to_z w64 (of_z w64 c.greatest_of-top.result))
-held-limit c = let t = c.before.before.args.kind in subst (Limit (least t)) (sym (held-greatest c)) (limit_is t)
+held-limit : (c : tie.After-greatest_of-top) → Limit (least c.args.kind) (to_z w64 (of_z w64 c.greatest_of-top.result))
+held-limit c = let t = c.args.kind in subst (Limit (least t)) (sym (held-greatest c)) (limit_is t)
 
 cast-top : tie.Need-overflow_cast-top
 cast-top c = let l = held-limit c in unsigned _ (nat_abs (to_z w64 (of_z w64 c.greatest_of-top.result))) l.is (omega (arith, l.small))
@@ -24,10 +24,10 @@ each-within-requires c κs = let l = held-limit c in (omega arith, omega (arith,
 
 returns : tie.Need-returns
 returns c = λ e.
-    let t = c.before.before.before.args.kind in
-    let l = c.before.before.least_of-signed in
+    let t = c.args.kind in
+    let l = c.least_of-signed in
     let low : to_z w64 (of_z w64 l.result) ≡ least t = ap (λ (z : ℤ). to_z w64 (of_z w64 z)) l.ensures ∙ held (least t) (omega (arith, least-small t)) in
-    all-within t (to_z w64 (of_z w64 l.result)) (nat_abs (to_z w64 (of_z w64 c.before.greatest_of-top.result))) c.before.before.before.args.pixels.now
+    all-within t (to_z w64 (of_z w64 l.result)) (nat_abs (to_z w64 (of_z w64 c.greatest_of-top.result))) c.args.pixels.now
     low (sym (held-limit c.before).is ∙ held-greatest c.before) (c.each_within.ensures e)
 
 pub all_typed_spec : {M : Type 1} → statement M

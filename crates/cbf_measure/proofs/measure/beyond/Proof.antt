@@ -5,13 +5,13 @@ use Rattle.cbf_measure.proofs.measure.beyond.Tie as tie
 
 returns : tie.Need-returns-then-m-half
 returns c = (
-  sym (over_no (pos c.before.args.m) c.before.args.half (lt-ltb c.before.args.m c.before.args.half c.if-m-half.true)),
+  sym (over_no (pos c.args.m) c.args.half (lt-ltb c.args.m c.args.half c.if-m-half.true)),
   omega arith,
 )
 
 returns-2 : tie.Need-returns-else-m-half
 returns-2 c = (
-  sym (over_yes (pos c.before.args.m) c.before.args.half (le-ltb c.before.args.m c.before.args.half c.if-m-half.false)),
+  sym (over_yes (pos c.args.m) c.args.half (le-ltb c.args.m c.args.half c.if-m-half.false)),
   omega arith,
 )
 

@@ -18,21 +18,21 @@ add-four c = omega (arith, c.beyond-four.ensures.1)
 
 loop-again : tie.Need-loop-j-preserved invariant-loop decreases-loop
 loop-again c =
-    let l = c.before.before.before.before.before.loop-j in
-    let w = c.before.before.before.before.before.before.args.words.now in
-    let m = c.before.apart-m.result in
-    let gap = c.before.apart-m.ensures
-    ∙ ap₂ (λ y z. nat_abs (y -ℤ z)) (held-32 (get_or w (l.j + 1) (pos 0)) c.before.before.y-1.given)
-    (held-32 (get_or w l.j (pos 0)) c.before.before.before.z-1.given) in
+    let l = c.loop-j in
+    let w = c.args.words.now in
+    let m = c.apart-m.result in
+    let gap = c.apart-m.ensures
+    ∙ ap₂ (λ y z. nat_abs (y -ℤ z)) (held-32 (get_or w (l.j + 1) (pos 0)) c.y-1.given)
+    (held-32 (get_or w l.j (pos 0)) c.z-1.given) in
     let b = c.beyond-four.ensures in
     let f = far-more w l.j m gap in
     (omega arith, omega (arith, b.1), omega (arith, b.0, l.invariant.2))
 
 returns : tie.Need-returns invariant-loop decreases-loop
 returns c =
-    let l = c.before.loop-j in
+    let l = c.loop-j in
     let e : l.j ≡ 128 = omega arith in
-    (l.invariant.2 ∙ ap (far_steps c.before.before.args.words.now) e, omega (arith, l.invariant.1))
+    (l.invariant.2 ∙ ap (far_steps c.args.words.now) e, omega (arith, l.invariant.1))
 
 pub count_far_spec : {M : Type 1} → statement M
 count_far_spec =

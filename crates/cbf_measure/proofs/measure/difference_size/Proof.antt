@@ -8,15 +8,15 @@ returns c =
     let s = c.before.before.before.before in
     let d = s.args.d in
     let f = s.ranges.d in
-    (form-size (form1 d (narrow-true d 128 _ f c.before.narrow-then-narrow.ensures c.if-narrow-2.true)), omega arith, omega arith)
+    (form-size (form1 d (narrow-true d 128 _ f c.narrow-then-narrow.ensures c.if-narrow-2.true)), omega arith, omega arith)
 
 returns-2 : tie.Need-returns-then-narrow
 returns-2 c =
     let s = c.before.before.before.before in
     let d = s.args.d in
     let f = s.ranges.d in (
-      form-size (form2 d (narrow-false d 128 _ f c.before.narrow-then-narrow.ensures c.if-narrow-2.false) (narrow-true d 32768 _ f
-          c.before.before.before.narrow.ensures c.before.before.if-narrow.true)),
+      form-size (form2 d (narrow-false d 128 _ f c.narrow-then-narrow.ensures c.if-narrow-2.false) (narrow-true d 32768 _ f
+          c.narrow.ensures c.if-narrow.true)),
       omega arith,
       omega arith,
     )
@@ -26,8 +26,8 @@ returns-3 c =
     let s = c.before.before.before.before in
     let d = s.args.d in
     let f = s.ranges.d in (
-      form-size (form4 d (narrow-false d 32768 _ f c.before.before.before.narrow.ensures
-          c.before.before.if-narrow.false) (narrow-true d 2147483648 _ f c.before.narrow-2.ensures c.if-narrow-3.true)),
+      form-size (form4 d (narrow-false d 32768 _ f c.narrow.ensures
+          c.if-narrow.false) (narrow-true d 2147483648 _ f c.narrow-2.ensures c.if-narrow-3.true)),
       omega arith,
       omega arith,
     )
@@ -37,7 +37,7 @@ returns-4 c =
     let s = c.before.before.before.before in
     let d = s.args.d in
     let f = s.ranges.d in
-    (form-size (form8 d (narrow-false d 2147483648 _ f c.before.narrow-2.ensures c.if-narrow-3.false)), omega arith, omega arith)
+    (form-size (form8 d (narrow-false d 2147483648 _ f c.narrow-2.ensures c.if-narrow-3.false)), omega arith, omega arith)
 
 pub difference_size_spec : {M : Type 1} → statement M
 difference_size_spec =

@@ -8,7 +8,7 @@ greatest_of_spec =
     tie.close
     (tie.spec
     (λ c. search rules) (λ c. search rules) (λ c. search rules) (λ c. search rules) (λ c. search rules)
-    (λ c. search rules) (λ c. sym (ap greatest c.enum_told-1.given.1))
-    (λ c. sym (ap greatest c.enum_told-in-S8-1.given.1)) (λ c. sym (ap greatest c.enum_told-in-U16-1.given.1))
-    (λ c. sym (ap greatest c.enum_told-in-S16-1.given.1)) (λ c. sym (ap greatest c.enum_told-in-U32-1.given.1))
-    (λ c. sym (ap greatest c.enum_told-in-S32-1.given.1)))
+    (λ c. search rules) (λ c. sym (ap greatest c.in-U8.is))
+    (λ c. sym (ap greatest c.in-S8.is)) (λ c. sym (ap greatest c.in-U16.is))
+    (λ c. sym (ap greatest c.in-S16.is)) (λ c. sym (ap greatest c.in-U32.is))
+    (λ c. sym (ap greatest c.in-S32.is)))

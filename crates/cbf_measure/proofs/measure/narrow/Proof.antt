@@ -14,14 +14,14 @@ sub-if1 c = record { sfits = subst (λ (z : ℤ). mag (pos 0 -ℤ z) < 2 ^ 63) (
 -- the test, of the integers themselves
 tested : (c : tie.Start) (t : Bool) → le_z (to_z w64 (of_z w64 c.args.d))
     (to_z w64 (of_z w64 (pos 0 -ℤ to_z w64 c.args.half))) ≡ t → le_z c.args.d (pos 0 -ℤ pos c.args.half) ≡ t
-tested c t e = sym (ap₂ le_z (to_z-of_z c.ranges.d) (to_z-of_z (sub-if1 c) ∙ ap (λ (z : ℤ). pos 0 -ℤ z) (half_is c))) ∙ e
+tested c t e = sym (ap₂ le_z (to_z-of_z {w = w64} c.ranges.d) (to_z-of_z {w = w64} (sub-if1 c) ∙ ap (λ (z : ℤ). pos 0 -ℤ z) (half_is c))) ∙ e
 
 returns : tie.Need-returns-then-d-h
-returns c = sym (narrow-low c.before.args.d c.before.args.half (tested c.before true c.if-d-h.true))
+returns c = sym (narrow-low c.args.d c.args.half (tested c.before true c.if-d-h.true))
 
 returns-2 : tie.Need-returns
-returns-2 c = ap₂ lt_z (to_z-of_z c.before.ranges.d) (half_is c.before) ∙ narrow_high c.before.args.d
-    c.before.args.half (tested c.before false c.if-d-h.false)
+returns-2 c = ap₂ lt_z (to_z-of_z {w = w64} c.ranges.d) (half_is c.before) ∙ narrow_high c.args.d
+    c.args.half (tested c.before false c.if-d-h.false)
 
 pub narrow_spec : {M : Type 1} → statement M
 narrow_spec = tie.close (tie.spec (λ c. search rules) sub-if1 returns returns-2)

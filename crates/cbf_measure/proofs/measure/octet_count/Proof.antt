@@ -14,8 +14,8 @@ decreases-loop pixels lo hi words₀ last₀ total₀ k₀ words last total k = 
 
 loop-holds : tie.Need-loop-k-init invariant-loop decreases-loop
 loop-holds c = (
-  all_none c.before.before.args.kind c.before.least_of-lo.ensures c.greatest_of-hi.ensures
-      c.before.before.args.pixels.now,
+  all_none c.args.kind c.least_of-lo.ensures c.greatest_of-hi.ensures
+      c.args.pixels.now,
   omega arith,
   omega arith,
   refl,
@@ -23,49 +23,49 @@ loop-holds c = (
 
 size-of-part-requires : tie.Need-size_of_part-m-requires invariant-loop decreases-loop
 size-of-part-requires c κs =
-    let l = c.before.before.before.before.before.loop-k in
-    let ps = c.before.before.before.before.before.before.before.before.args.pixels.now in (
+    let l = c.loop-k in
+    let ps = c.args.pixels.now in (
       l.invariant.0.typed,
-      omega (arith, c.before.part-n.ensures.0),
-      c.before.part-n.ensures.1,
+      omega (arith, c.part-n.ensures.0),
+      c.part-n.ensures.1,
       (λ h. l.invariant.0.ends ∙ last-at (pos 0) ps 0 l.k (l.k - 1) (omega arith) (omega arith) (omega arith)),
       l.invariant.3,
     )
 
 returns : tie.Need-returns-then-m-eq0 invariant-loop decreases-loop
 returns c =
-    let n = c.before.before.before.part-n in
-    let r = c.before.size_of_part-m in
-    let t = c.before.before.before.before.before.before.loop-k-test.true in
+    let n = c.part-n in
+    let r = c.size_of_part-m in
+    let t = c.loop-k-test.true in
     let s = c.before.before.before.before.before.before.before.before.before.before in
-    let M = c.before.before.before.before.before.before.before.loop-k.invariant.0 in
-    all-outside s.args.kind c.before.before.before.before.before.before.before.before.before.least_of-lo.ensures
-    c.before.before.before.before.before.before.before.before.greatest_of-hi.ensures s.args.pixels.now
+    let M = c.loop-k.invariant.0 in
+    all-outside s.args.kind c.least_of-lo.ensures
+    c.greatest_of-hi.ensures s.args.pixels.now
     (added_out M n.result r.result r.ensures.0.0 c.if-m-eq0.true (n.ensures.2 (omega arith)) (omega (arith, n.ensures.0)))
 
 add_total : tie.Need-overflow_add-total invariant-loop decreases-loop
 add_total c =
-    let l = c.before.before.before.before.before.before.before.loop-k in
-    let p = c.before.before.before.before.before.before.before.before.before.before.requires in
-    omega (arith, c.before.size_of_part-m.ensures.0.1, c.before.before.before.part-n.ensures.1, l.invariant.1, l.invariant.2)
+    let l = c.loop-k in
+    let p = c.requires in
+    omega (arith, c.size_of_part-m.ensures.0.1, c.part-n.ensures.1, l.invariant.1, l.invariant.2)
 
 add-total-2 : tie.Need-overflow_add-total-else-n-eq0 invariant-loop decreases-loop
 add-total-2 c =
-    let l = c.before.before.before.loop-k in
-    omega (arith, c.before.window_run-n.ensures.inside, l.invariant.1, l.invariant.2, c.before.before.before.before.before.before.requires)
+    let l = c.loop-k in
+    omega (arith, c.window_run-n.ensures.inside, l.invariant.1, l.invariant.2, c.requires)
 
 -- the part of a turn, where its two ways meet
 abbrev Turn : (c : tie.Joined-n-eq0 invariant-loop decreases-loop) (n : ℕ) → Type 0
 Turn c n =
-    Added c.before.before.before.before.before.before.args.pixels.now
-    (held c.before.before.before.before.before.least_of-lo.result)
-    (held c.before.before.before.before.greatest_of-hi.result) c.before.before.before.loop-k.k n
-    (to_z w64 c.before.before.before.loop-k.last) c.before.before.before.loop-k.total c.if-n-eq0.total
+    Added c.args.pixels.now
+    (held c.least_of-lo.result)
+    (held c.greatest_of-hi.result) c.loop-k.k n
+    (to_z w64 c.loop-k.last-bits) c.loop-k.total c.if-n-eq0.total
 
 joined : (c : tie.Joined-n-eq0 invariant-loop decreases-loop) → Turn c c.if-n-eq0.n
 joined c =
-    let t = c.before.before.loop-k-test.true in
-    let r = c.before.window_run-n in
+    let t = c.loop-k-test.true in
+    let r = c.window_run-n in
     ⊎_elim
     (λ w. subst (Turn c) (sym w.7)
     (record {
@@ -80,17 +80,17 @@ joined c =
     (λ w. subst (Turn c) (sym w.3)
     (record {
       size = r.result;
-      takes = window-size c.before.before.before.loop-k.invariant.0.typed r.ensures;
+      takes = window-size c.loop-k.invariant.0.typed r.ensures;
       inside = w.0.left;
       sum = w.2;
       some = omega (arith, w.0.left);
       reach = r.ensures.inside;
       few = omega arith;
     }))
-    c.if-n-eq0.branch
+    c.if-n-eq0.branch-raw
 
 long : (c : tie.Joined-n-eq0 invariant-loop decreases-loop) → length c.if-n-eq0.words ≡ 129
-long c = ⊎_elim (λ w. ap length w.5 ∙ w.3.ensures.1) (λ w. ap length w.1 ∙ c.before.before.before.loop-k.invariant.3) c.if-n-eq0.branch
+long c = ⊎_elim (λ w. ap length w.5 ∙ w.3.ensures.1) (λ w. ap length w.1 ∙ c.loop-k.invariant.3) c.if-n-eq0.branch-raw
 
 add-k : tie.Need-overflow_add-k invariant-loop decreases-loop
 add-k c = let A = joined c.before in omega (arith, c.before.before.before.before.before.before.before)
@@ -109,15 +109,15 @@ loop-less c = let A = joined c.before.before in omega (arith, c.before.before.be
 
 loop-again : tie.Need-loop-k-preserved invariant-loop decreases-loop
 loop-again c =
-    let l = c.before.before.before.before.before.loop-k in
+    let l = c.loop-k in
     let A = joined c.before.before in
-    let m = added_more l.invariant.0 A (l.k + c.before.before.if-n-eq0.n - 1) (omega arith) _ (to_z-of_z (record { sfits = c.last-1.given })) in
+    let m = added_more l.invariant.0 A (l.k + c.if-n-eq0.n - 1) (omega arith) _ (to_z-of_z {w = w64} (record { sfits = c.last-1.given })) in
     (m, A.reach, omega (arith, l.invariant.2), long c.before.before)
 
 returns-2 : tie.Need-returns invariant-loop decreases-loop
-returns-2 c = all-inside c.before.before.before.before.args.kind
-    c.before.before.before.least_of-lo.ensures c.before.before.greatest_of-hi.ensures
-    c.before.before.before.before.args.pixels.now c.before.loop-k.invariant.0 (omega arith)
+returns-2 c = all-inside c.args.kind
+    c.least_of-lo.ensures c.greatest_of-hi.ensures
+    c.args.pixels.now c.loop-k.invariant.0 (omega arith)
 
 pub octet_count_spec : {M : Type 1} → statement M
 octet_count_spec =

@@ -9,42 +9,42 @@ use Rattle.cbf_measure.proofs.measure.pixel_size.Tie as tie
 
 -- a test of two of the arguments, of the integers themselves
 tested : (t : Bool) {a b : ℤ} → SFits w64 a → SFits w64 b → lt_z (to_z w64 (of_z w64 a)) (to_z w64 (of_z w64 b)) ≡ t → lt_z a b ≡ t
-tested t f g e = sym (ap₂ lt_z (to_z-of_z f) (to_z-of_z g)) ∙ e
+tested t f g e = sym (ap₂ lt_z (to_z-of_z {w = w64} f) (to_z-of_z {w = w64} g)) ∙ e
 
 -- where neither test held
-inside : (c : tie.Else-hi-z) → within c.before.before.args.lo c.before.before.args.hi c.before.before.args.z ≡ true
+inside : (c : tie.Else-hi-z) → within c.args.lo c.args.hi c.args.z ≡ true
 inside c =
-    let a = c.before.before.args in
-    let f = c.before.before.ranges in
-    in_bounds a.lo a.hi a.z (tested false f.z f.lo c.before.if-z-lo.false) (tested false f.hi f.z c.if-hi-z.false)
+    let a = c.args in
+    let f = c.ranges in
+    in_bounds a.lo a.hi a.z (tested false f.z f.lo c.if-z-lo.false) (tested false f.hi f.z c.if-hi-z.false)
 
 returns : tie.Need-returns-then-z-lo
 returns c =
-    let a = c.before.args in
-    let f = c.before.ranges in
+    let a = c.args in
+    let f = c.ranges in
     (sym (one_outside a.lo a.hi a.last a.z (below-least a.lo a.hi a.z (tested true f.z f.lo c.if-z-lo.true))), omega arith)
 
 returns-2 : tie.Need-returns-then-hi-z
 returns-2 c =
-    let a = c.before.before.args in
-    let f = c.before.before.ranges in
+    let a = c.args in
+    let f = c.ranges in
     (sym (one_outside a.lo a.hi a.last a.z (above-greatest a.lo a.hi a.z (tested true f.hi f.z c.if-hi-z.true))), omega arith)
 
 sub-difference-size : tie.Need-overflow_sub-z
 sub-difference-size c =
-    let a = c.before.before.args in
-    let f = c.before.before.ranges in
-    let T = c.before.before.requires in
+    let a = c.args in
+    let f = c.ranges in
+    let T = c.requires in
     let m = mag-sub a.z a.last (typed-range (typed-other a.z T (inside c))) (typed-range T) in
-    record { sfits = subst (λ (z : ℤ). mag z < 2 ^ 63) (sym (ap₂ ◌-ℤ◌ (to_z-of_z f.z) (to_z-of_z f.last))) (omega (arith, m)) }
+    record { sfits = subst (λ (z : ℤ). mag z < 2 ^ 63) (sym (ap₂ ◌-ℤ◌ (to_z-of_z {w = w64} f.z) (to_z-of_z {w = w64} f.last))) (omega (arith, m)) }
 
-difference-is : (c : tie.Else-hi-z) → to_z w64 (of_z w64 (to_z w64 (of_z w64 c.before.before.args.z) -ℤ to_z w64
-    (of_z w64 c.before.before.args.last))) ≡ c.before.before.args.z -ℤ c.before.before.args.last
-difference-is c = to_z-of_z (sub-difference-size c) ∙ ap₂ ◌-ℤ◌ (to_z-of_z c.before.before.ranges.z) (to_z-of_z c.before.before.ranges.last)
+difference-is : (c : tie.Else-hi-z) → to_z w64 (of_z w64 (to_z w64 (of_z w64 c.args.z) -ℤ to_z w64
+    (of_z w64 c.args.last))) ≡ c.args.z -ℤ c.args.last
+difference-is c = to_z-of_z {w = w64} (sub-difference-size c) ∙ ap₂ ◌-ℤ◌ (to_z-of_z {w = w64} c.ranges.z) (to_z-of_z {w = w64} c.ranges.last)
 
 returns-3 : tie.Need-returns
 returns-3 c =
-    let a = c.before.before.before.args in
+    let a = c.args in
     let E = c.difference_size.ensures in (
       E.0 ∙ ap (λ (d : ℤ). length (pack_difference d)) (difference-is c.before)
           ∙ sym (one_inside a.lo a.hi a.last a.z (inside c.before)),

@@ -15,34 +15,34 @@ loop-holds : tie.Need-loop-j-init invariant-loop decreases-loop
 loop-holds c = (held_none c.ranges.lo c.ranges.hi c.ranges.last c.args.pixels.now c.args.k c.requires.0, omega arith, omega arith)
 
 pixel-size-requires : tie.Need-pixel_size-m-requires invariant-loop decreases-loop
-pixel-size-requires c κs = c.before.before.loop-j.invariant.0.typed
+pixel-size-requires c κs = c.loop-j.invariant.0.typed
 
 returns : tie.Need-returns-then-m-eq0 invariant-loop decreases-loop
 returns c =
-    let l = c.before.before.before.before.loop-j in
+    let l = c.loop-j in
     let s = c.before.before.before.before.before in
     let a = s.args in
-    let t = c.before.before.before.loop-j-test.true in
-    let o = one_out l.invariant.0 (a.k + l.j) c.before.pixel_size-m.result _ refl (omega (arith, s.requires.1))
-    (to_z-of_z (record { sfits = c.before.before.z-1.given })) c.before.pixel_size-m.ensures.0 c.if-m-eq0.true
+    let t = c.loop-j-test.true in
+    let o = one_out l.invariant.0 (a.k + l.j) c.pixel_size-m.result _ refl (omega (arith, s.requires.1))
+    (to_z-of_z {w = w64} (record { sfits = c.z-1.given })) c.pixel_size-m.ensures.0 c.if-m-eq0.true
     a.n (omega arith) (omega arith) in
     (held-outside s.ranges.lo s.ranges.hi s.ranges.last (part a.pixels.now a.k a.n) o, omega arith)
 
 loop-again : tie.Need-loop-j-preserved invariant-loop decreases-loop
 loop-again c =
-    let l = c.before.before.before.before.loop-j in
+    let l = c.loop-j in
     let s = c.before.before.before.before.before in
     let a = s.args in
-    let t = c.before.before.before.loop-j-test.true in (
-      one_more_lem l.invariant.0 (a.k + l.j) c.before.pixel_size-m.result _ refl (omega (arith, s.requires.1))
-          (to_z-of_z (record { sfits = c.before.before.z-1.given })) c.before.pixel_size-m.ensures.0 c.if-m-eq0.false,
+    let t = c.loop-j-test.true in (
+      one_more_lem l.invariant.0 (a.k + l.j) c.pixel_size-m.result _ refl (omega (arith, s.requires.1))
+          (to_z-of_z {w = w64} (record { sfits = c.z-1.given })) c.pixel_size-m.ensures.0 c.if-m-eq0.false,
       omega arith,
       omega arith,
     )
 
 returns-2 : tie.Need-returns invariant-loop decreases-loop
 returns-2 c =
-    let l = c.before.loop-j in
+    let l = c.loop-j in
     let s = c.before.before in
     let a = s.args in
     let e : l.j ≡ a.n = omega arith in (

@@ -1,3 +1,4 @@
+use mir.Syntax.{w64}
 use Rattle.std.proofs.Common.{◌≡◌, ◌∙◌, arith, to_z-of_z, rules}
 use borrow.Author.Tests.{not-false}
 use Rattle.cbf_measure.specs.Measure.{part}
@@ -25,20 +26,20 @@ returns-3 c =
     let s = c.before.before.before.before.before.before in
     let a = s.args in (
       (held-is s.ranges.lo s.ranges.hi s.ranges.last (part a.pixels.now a.k a.n) c.size_of_each-then-not-typed_words.ensures.0, c.size_of_each-then-not-typed_words.ensures.1),
-      c.before.before.typed_words.ensures.1,
+      c.typed_words.ensures.1,
     )
 
 returns-4 : tie.Need-returns
 returns-4 c =
     let s = c.before.before.before.before.before.before.before in
     let a = s.args in
-    let t = c.before.before.before.typed_words in
+    let t = c.typed_words in
     let r = c.size_of_words in
     let e : a.n ≡ 128 = omega arith in
-    let both = t.ensures.0 (not-false t.result c.before.before.if-not-typed_words.false) in
-    let m = part-words (held a.lo) (held a.hi) a.pixels.now a.k a.n (held a.last) r.result t.new.1.1.1.1.1.0
+    let both = t.ensures.0 (c.if-not-typed_words.false) in
+    let m = part-words (held a.lo) (held a.hi) a.pixels.now a.k a.n (held a.last) r.result t.new.words
     (omega arith) e s.requires.1
-    (to_z-of_z s.ranges.last ∙ s.requires.3 (omega arith)) t.ensures.1 both r.ensures.0 in
+    (to_z-of_z {w = w64} s.ranges.last ∙ s.requires.3 (omega arith)) t.ensures.1 both r.ensures.0 in
     ((held-is s.ranges.lo s.ranges.hi s.ranges.last (part a.pixels.now a.k a.n) m, omega (arith, r.ensures.1)), t.ensures.1)
 
 pub size_of_part_spec : {M : Type 1} → statement M

@@ -24,40 +24,40 @@ add-two c = omega (arith, c.beyond-two.ensures.1)
 
 loop-again : tie.Need-loop-j-preserved invariant-loop decreases-loop
 loop-again c =
-    let l = c.before.before.before.before.before.before.loop-j in
+    let l = c.loop-j in
     let s = c.before.before.before.before.before.before.before in
     let w = s.args.words.now in
-    let m = c.before.before.apart-m.result in
-    let gap = c.before.before.apart-m.ensures
-    ∙ ap₂ (λ y z. nat_abs (y -ℤ z)) (held-32 (get_or w (l.j + 1) (pos 0)) c.before.before.before.y-1.given)
-    (held-32 (get_or w l.j (pos 0)) c.before.before.before.before.z-1.given) in
+    let m = c.apart-m.result in
+    let gap = c.apart-m.ensures
+    ∙ ap₂ (λ y z. nat_abs (y -ℤ z)) (held-32 (get_or w (l.j + 1) (pos 0)) c.y-1.given)
+    (held-32 (get_or w l.j (pos 0)) c.z-1.given) in
     let t = steps-turn w l.j m l.one l.two (far_steps w l.j) (omega (arith, s.requires)) gap l.invariant.3 in
     let f = far-more w l.j m gap in
-    let a = c.before.beyond-one.ensures in
+    let a = c.beyond-one.ensures in
     let b = c.beyond-two.ensures in
     let none = far-or (far_steps w l.j) m l.all l.invariant.4 in
     (omega arith, omega (arith, a.1), omega (arith, b.1), omega (arith, a.0, b.0), λ h. f ∙ none h)
 
 -- what the loop leaves
 done : (l : tie.At-loop-j invariant-loop decreases-loop) → 128 ≤ l.loop-j.j
-    → steps_size l.before.args.words.now 0 128 ≡ 128 + 2 * l.loop-j.one + 4 * l.loop-j.two + 8 * far_steps l.before.args.words.now 128
+    → steps_size l.args.words.now 0 128 ≡ 128 + 2 * l.loop-j.one + 4 * l.loop-j.two + 8 * far_steps l.args.words.now 128
 done l h =
-    let w = l.before.args.words.now in
+    let w = l.args.words.now in
     let e : l.loop-j.j ≡ 128 = omega (arith, l.loop-j.invariant.0) in
     subst (λ (j : ℕ). steps_size w 0 j ≡ j + 2 * l.loop-j.one + 4 * l.loop-j.two + 8 * far_steps w j) e l.loop-j.invariant.3
 
 returns : tie.Need-returns-then-all-lt2147483648 invariant-loop decreases-loop
 returns c =
-    let l = c.before.before.loop-j in
+    let l = c.loop-j in
     let e : l.j ≡ 128 = omega arith in
-    let f = ap (far_steps c.before.before.before.args.words.now) e in
+    let f = ap (far_steps c.args.words.now) e in
     let z = l.invariant.4 c.if-all-lt2147483648.true in
     let d = done c.before.before (omega arith) in
     (omega arith, omega (arith, l.invariant.1, l.invariant.2))
 
 returns-2 : tie.Need-returns invariant-loop decreases-loop
 returns-2 c =
-    let l = c.before.before.before.loop-j in
+    let l = c.loop-j in
     let d = done c.before.before.before (omega arith) in
     (omega (arith, c.count_far.ensures.0), omega (arith, l.invariant.1, l.invariant.2, c.count_far.ensures.1))
 

@@ -5,38 +5,38 @@ use Rattle.cbf_pixels.proofs.Unsigned.{below-zero, below-bits, from_zero, from_b
 use Rattle.cbf_measure.proofs.range.bits_of_far.Statement.{statement}
 use Rattle.cbf_measure.proofs.range.bits_of_far.Tie as tie
 
-negative : (c : tie.Then-d-lt0) → lt_z c.before.args.d (pos 0) ≡ true
-negative c = subst (λ (z : ℤ). lt_z z (pos 0) ≡ true) (to_z-of_z c.before.ranges.d) c.if-d-lt0.true
+negative : (c : tie.Then-d-lt0) → lt_z c.args.d (pos 0) ≡ true
+negative c = subst (λ (z : ℤ). lt_z z (pos 0) ≡ true) (to_z-of_z {w = w64} c.ranges.d) c.if-d-lt0.true
 
-rest : (c : tie.Then-d-lt0) → negsuc 0 -ℤ to_z w64 (of_z w64 c.before.args.d) ≡ pos (mag c.before.args.d)
-rest c = ap (λ (z : ℤ). negsuc 0 -ℤ z) (to_z-of_z c.before.ranges.d) ∙ below-zero c.before.args.d (negative c)
+rest : (c : tie.Then-d-lt0) → negsuc 0 -ℤ to_z w64 (of_z w64 c.args.d) ≡ pos (mag c.args.d)
+rest c = ap (λ (z : ℤ). negsuc 0 -ℤ z) (to_z-of_z {w = w64} c.ranges.d) ∙ below-zero c.args.d (negative c)
 
 sub-result : tie.Need-overflow_sub-result
-sub-result c = fits-pos _ (mag c.before.args.d) (rest c) c.before.ranges.d.sfits
+sub-result c = fits-pos _ (mag c.args.d) (rest c) c.ranges.d.sfits
 
-stored : (c : tie.Then-d-lt0) → to_z w64 (of_z w64 (negsuc 0 -ℤ to_z w64 (of_z w64 c.before.args.d))) ≡ pos (mag c.before.args.d)
-stored c = to_z-of_z (sub-result c) ∙ rest c
+stored : (c : tie.Then-d-lt0) → to_z w64 (of_z w64 (negsuc 0 -ℤ to_z w64 (of_z w64 c.args.d))) ≡ pos (mag c.args.d)
+stored c = to_z-of_z {w = w64} (sub-result c) ∙ rest c
 
 cast-result : tie.Need-overflow_cast-result
-cast-result c = unsigned _ (mag c.before.args.d) (stored c) c.before.ranges.d.sfits
+cast-result c = unsigned _ (mag c.args.d) (stored c) c.ranges.d.sfits
 
 sub-result-2 : tie.Need-overflow_sub-result-then-d-lt0
-sub-result-2 c = omega (arith, ap nat_abs (stored c), c.before.ranges.d.sfits)
+sub-result-2 c = omega (arith, ap nat_abs (stored c), c.ranges.d.sfits)
 
 returns : tie.Need-returns-then-d-lt0
-returns c = ap (λ (z : ℤ). 18446744073709551615 - nat_abs z) (stored c) ∙ below-bits c.before.args.d (negative c)
+returns c = ap (λ (z : ℤ). 18446744073709551615 - nat_abs z) (stored c) ∙ below-bits c.args.d (negative c)
 
-positive : (c : tie.Else-d-lt0) → lt_z c.before.args.d (pos 0) ≡ false
-positive c = subst (λ (z : ℤ). lt_z z (pos 0) ≡ false) (to_z-of_z c.before.ranges.d) c.if-d-lt0.false
+positive : (c : tie.Else-d-lt0) → lt_z c.args.d (pos 0) ≡ false
+positive c = subst (λ (z : ℤ). lt_z z (pos 0) ≡ false) (to_z-of_z {w = w64} c.ranges.d) c.if-d-lt0.false
 
-same : (c : tie.Else-d-lt0) → to_z w64 (of_z w64 c.before.args.d) ≡ pos (mag c.before.args.d)
-same c = to_z-of_z c.before.ranges.d ∙ from_zero c.before.args.d (positive c)
+same : (c : tie.Else-d-lt0) → to_z w64 (of_z w64 c.args.d) ≡ pos (mag c.args.d)
+same c = to_z-of_z {w = w64} c.ranges.d ∙ from_zero c.args.d (positive c)
 
 cast-result-2 : tie.Need-overflow_cast-result-2
-cast-result-2 c = unsigned _ (mag c.before.args.d) (same c) c.before.ranges.d.sfits
+cast-result-2 c = unsigned _ (mag c.args.d) (same c) c.ranges.d.sfits
 
 returns-2 : tie.Need-returns
-returns-2 c = ap nat_abs (same c) ∙ from_bits c.before.args.d (positive c)
+returns-2 c = ap nat_abs (same c) ∙ from_bits c.args.d (positive c)
 
 pub bits_of_far_spec : {M : Type 1} → statement M
 bits_of_far_spec = tie.close (tie.spec sub-result cast-result sub-result-2 returns cast-result-2 returns-2)

@@ -7,18 +7,18 @@ use Rattle.cbf_measure.proofs.range.each_within.Tie as tie
 
 returns : tie.Need-returns-then-signed
 returns c = λ e.
-    let a = c.before.before.args in
+    let a = c.args in
     let h = leb-true c.spread.result (a.limit + (a.limit + 1)) e in
-    subst (λ (b : Bool). EachWithin a.pixels.now a.k a.n (lowest b a.limit) (pos a.limit)) (sym c.before.if-signed.true)
-    (λ j l. let s = c.spread.ensures j l in within_signed (get_or a.pixels.now (a.k + j) (pos 0)) a.limit c.before.before.requires.1
+    subst (λ (b : Bool). EachWithin a.pixels.now a.k a.n (lowest b a.limit) (pos a.limit)) (sym c.if-signed.true)
+    (λ j l. let s = c.spread.ensures j l in within_signed (get_or a.pixels.now (a.k + j) (pos 0)) a.limit c.requires.1
     (omega (arith, s.0), s.1))
 
 returns-2 : tie.Need-returns
 returns-2 c = λ e.
-    let a = c.before.before.args in
+    let a = c.args in
     let h = leb-true c.spread-2.result a.limit e in
-    subst (λ (b : Bool). EachWithin a.pixels.now a.k a.n (lowest b a.limit) (pos a.limit)) (sym c.before.if-signed.false)
-    (λ j l. let s = c.spread-2.ensures j l in within-unsigned (get_or a.pixels.now (a.k + j) (pos 0)) a.limit c.before.before.requires.1
+    subst (λ (b : Bool). EachWithin a.pixels.now a.k a.n (lowest b a.limit) (pos a.limit)) (sym c.if-signed.false)
+    (λ j l. let s = c.spread-2.ensures j l in within-unsigned (get_or a.pixels.now (a.k + j) (pos 0)) a.limit c.requires.1
     (omega (arith, s.0), s.1))
 
 pub each_within_spec : {M : Type 1} → statement M

@@ -17,17 +17,17 @@ loop-holds c = (omega arith, gathered_none c.args.pixels.now c.args.k c.args.bel
 
 loop-again : tie.Need-loop-j-preserved invariant-loop decreases-loop
 loop-again c =
-    let l = c.before.before.before.before.loop-j in
-    let a = c.before.before.before.before.before.args in
-    let g = c.before.before.z-1.given in
-    let p = c.before.place-p in
+    let l = c.loop-j in
+    let a = c.args in
+    let g = c.z-1.given in
+    let p = c.place-p in
     let e = p.ensures ∙ ap (λ (y : ℤ). (bits 8 y + a.below) % 2 ^ 64) (held (get_or a.pixels.now (a.k + l.j) (pos 0)) g) in
     (omega arith, gathered-more l.invariant.1 (omega arith) g p.result e _ (word_held p.result c.word_of.ensures))
 
 returns : tie.Need-returns invariant-loop decreases-loop
 returns c =
-    let a = c.before.before.args in
-    let l = c.before.loop-j in
+    let a = c.args in
+    let l = c.loop-j in
     let e : l.j ≡ 129 = omega arith in
     subst (λ (j : ℕ). Gathered a.pixels.now a.k j a.below l.words l.all) e l.invariant.1
 

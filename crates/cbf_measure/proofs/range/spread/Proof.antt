@@ -19,17 +19,17 @@ loop-holds c = (omega arith, (λ i h. let y : ⊥ = omega arith in absurd y), λ
 
 loop-again : tie.Need-loop-j-preserved invariant-loop decreases-loop
 loop-again c =
-    let l = c.before.before.before.loop-j in
-    let s = c.before.before.before.before.args in
-    let e = c.place-all.ensures ∙ ap (λ (y : ℤ). (bits 8 y + s.below) % 2 ^ 64) (held (get_or s.pixels.now (s.k + l.j) (pos 0)) c.before.z-1.given) in (
+    let l = c.loop-j in
+    let s = c.args in
+    let e = c.place-all.ensures ∙ ap (λ (y : ℤ). (bits 8 y + s.below) % 2 ^ 64) (held (get_or s.pixels.now (s.k + l.j) (pos 0)) c.z-1.given) in (
       omega arith,
       subst (λ (x : ℕ). (i : ℕ) → i < l.j + 1 → (bits 8 (get_or s.pixels.now (s.k + i) (pos 0)) + s.below) % 2 ^ 64 ≤ bit_or l.all x) (sym e)
           (or-more (λ (i : ℕ). (bits 8 (get_or s.pixels.now (s.k + i) (pos 0)) + s.below) % 2 ^ 64) l.j l.all l.invariant.1),
-      below_more (λ (i : ℕ). mag (get_or s.pixels.now (s.k + i) (pos 0)) < 2 ^ 63) l.j l.invariant.2 c.before.z-1.given,
+      below_more (λ (i : ℕ). mag (get_or s.pixels.now (s.k + i) (pos 0)) < 2 ^ 63) l.j l.invariant.2 c.z-1.given,
     )
 
 returns : tie.Need-returns invariant-loop decreases-loop
-returns c = λ j h. let l : j < c.before.loop-j.j = omega arith in (c.before.loop-j.invariant.1 j l, c.before.loop-j.invariant.2 j l)
+returns c = λ j h. let l : j < c.loop-j.j = omega arith in (c.loop-j.invariant.1 j l, c.loop-j.invariant.2 j l)
 
 pub spread_spec : {M : Type 1} → statement M
 spread_spec =

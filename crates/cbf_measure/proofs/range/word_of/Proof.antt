@@ -18,10 +18,10 @@ sub-result : tie.Need-overflow_sub-result
 sub-result c = record { sfits = subst (λ (z : ℤ). mag z < 2 ^ 63) (sym (is c)) (omega (arith, small c)) }
 
 cast-result-2 : tie.Need-overflow_cast-result-2
-cast-result-2 c = record { sfits = subst (λ (z : ℤ). mag z < 2 ^ 31) (sym (to_z-of_z (sub-result c) ∙ is c)) (small c) }
+cast-result-2 c = record { sfits = subst (λ (z : ℤ). mag z < 2 ^ 31) (sym (to_z-of_z {w = w64} (sub-result c) ∙ is c)) (small c) }
 
 returns : tie.Need-returns
-returns c = to_z-of_z (cast-result-2 c) ∙ to_z-of_z (sub-result c) ∙ is c
+returns c = to_z-of_z {w = w64} (cast-result-2 c) ∙ to_z-of_z {w = w64} (sub-result c) ∙ is c
 
 pub word_of_spec : {M : Type 1} → statement M
 word_of_spec = tie.close (tie.spec (λ c. search rules) sub-result cast-result-2 returns)

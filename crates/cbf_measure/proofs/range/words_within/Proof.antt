@@ -9,7 +9,7 @@ returns c =
     let s = c.before.before.before in
     let a = s.args in
     let g = c.gather.ensures in
-    let b = ap (λ (t : Bool). raised_by t a.limit) (sym c.before.before.if-signed.true) in (
+    let b = ap (λ (t : Bool). raised_by t a.limit) (sym c.if-signed.true) in (
       (λ e.
           let most = leb-true c.gather.result (a.limit + (a.limit + 1)) e in (
             gathered-within a.signed a.limit (a.limit + 1) g b s.requires.2 most,
@@ -24,7 +24,7 @@ returns-2 c =
     let s = c.before.before.before in
     let a = s.args in
     let g = c.gather-2.ensures in
-    let b = ap (λ (t : Bool). raised_by t a.limit) (sym c.before.before.if-signed.false) in (
+    let b = ap (λ (t : Bool). raised_by t a.limit) (sym c.if-signed.false) in (
       (λ e.
           let h = leb-true c.gather-2.result a.limit e in
           (gathered-within a.signed a.limit 0 g b s.requires.2 (omega arith), gathered-steps a.signed a.limit 0 g b s.requires.2 (omega arith))),

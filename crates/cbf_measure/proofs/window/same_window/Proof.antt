@@ -20,11 +20,11 @@ loop-holds c = (omega arith, (λ i h. let y : ⊥ = omega arith in absurd y), λ
 
 loop-again : tie.Need-loop-j-preserved invariant-loop decreases-loop
 loop-again c =
-    let s = c.before.before.before.args in
-    let l = c.before.before.loop-j in (
+    let s = c.args in
+    let l = c.loop-j in (
       omega arith,
       below_more (λ (i : ℕ). mag (get_or s.pixels.now (s.k + i) (pos 0)) < 2 ^ 63) l.j l.invariant.1 c.all-1.given,
-      or-more (λ (i : ℕ). bit_xor (of_z w64 (get_or s.pixels.now (s.k + i) (pos 0))) (of_z w64 s.last)) l.j l.all-1 l.invariant.2,
+      or-more (λ (i : ℕ). bit_xor (of_z w64 (get_or s.pixels.now (s.k + i) (pos 0))) (of_z w64 s.last)) l.j l.all-bits l.invariant.2,
     )
 
 returns : tie.Need-returns-then-all-lt0 invariant-loop decreases-loop
@@ -33,10 +33,10 @@ returns c = λ e. never e
 returns-2 : tie.Need-returns invariant-loop decreases-loop
 returns-2 c = λ e j h.
     let s = c.before.before.before in
-    let l = c.before.before.loop-j in
-    let w = low_word l.all-1 c.if-all-lt0.false e in
+    let l = c.loop-j in
+    let w = low_word l.all-bits c.if-all-lt0.false e in
     let y = get_or s.args.pixels.now (s.args.k + j) (pos 0) in
-    let n = c.before.loop-j-test.false in
+    let n = c.loop-j-test.false in
     let x = xor-window (of_z w64 y) (of_z w64 s.args.last) (omega (arith, l.invariant.2 j (omega arith))) in
     word-window y s.args.last (l.invariant.1 j (omega arith)) s.ranges.last.sfits x
 

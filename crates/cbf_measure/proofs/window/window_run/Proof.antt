@@ -12,34 +12,34 @@ abbrev decreases-loop : tie.decreases-loop-n
 decreases-loop pixels k last left first n₀ n = left - n
 
 returns : tie.Need-returns-then-left-lt1 invariant-loop decreases-loop
-returns c = run_none _ _ _ c.before.requires
+returns c = run_none _ _ _ c.requires
 
 returns-2 : tie.Need-returns-then-first-lt0 invariant-loop decreases-loop
-returns-2 c = run_none _ _ _ c.before.before.before.requires
+returns-2 c = run_none _ _ _ c.requires
 
 returns-3 : tie.Need-returns-then-first-ge128 invariant-loop decreases-loop
-returns-3 c = run_none _ _ _ c.before.before.before.before.requires
+returns-3 c = run_none _ _ _ c.requires
 
 loop-holds : tie.Need-loop-n-init invariant-loop decreases-loop
-loop-holds c = (run_none _ _ _ c.before.before.before.before.requires, refl)
+loop-holds c = (run_none _ _ _ c.requires, refl)
 
 returns-4 : tie.Need-returns-then-not-same_window invariant-loop decreases-loop
 returns-4 c =
     let s = c.before.before.before.before.before.before.before.before in
-    subst (λ (z : ℤ). WindowRun s.args.pixels.now s.args.k z c.before.before.before.loop-n.n)
-    (to_z-of_z s.ranges.last) c.before.before.before.loop-n.invariant.0
+    subst (λ (z : ℤ). WindowRun s.args.pixels.now s.args.k z c.loop-n.n)
+    (to_z-of_z {w = w64} s.ranges.last) c.loop-n.invariant.0
 
 loop-again : tie.Need-loop-n-preserved invariant-loop decreases-loop
 loop-again c = (
-  run_more c.before.before.before.loop-n.invariant.0 (c.before.same_window.ensures
-      (not-false c.before.same_window.result c.if-not-same_window.false)) (omega arith),
+  run_more c.loop-n.invariant.0 (c.same_window.ensures
+      (c.if-not-same_window.false)) (omega arith),
   refl,
 )
 
 returns-5 : tie.Need-returns invariant-loop decreases-loop
 returns-5 c =
     let s = c.before.before.before.before.before.before in
-    subst (λ (z : ℤ). WindowRun s.args.pixels.now s.args.k z c.before.loop-n.n) (to_z-of_z s.ranges.last) c.before.loop-n.invariant.0
+    subst (λ (z : ℤ). WindowRun s.args.pixels.now s.args.k z c.loop-n.n) (to_z-of_z {w = w64} s.ranges.last) c.loop-n.invariant.0
 
 pub window_run_spec : {M : Type 1} → statement M
 window_run_spec =

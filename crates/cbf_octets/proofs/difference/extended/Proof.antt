@@ -1,3 +1,4 @@
+use mir.Syntax.{w64}
 use mir.Facts.{to_z-of_z}
 use native.Mathlib.Omega.{arith}
 use mathlib.Core.Path.{◌∙◌}
@@ -15,7 +16,7 @@ sub-result : tie.Need-overflow_sub-result
 sub-result c = record { sfits = extended_fits c.args.half c.args.n c.requires }
 
 returns : tie.Need-returns
-returns c = λ k e. to_z-of_z (sub-result c) ∙ extended-is c.args.half c.args.n c.requires k e
+returns c = λ k e. to_z-of_z {w = w64} (sub-result c) ∙ extended-is c.args.half c.args.n c.requires k e
 
 pub extended_spec : {M : Type 1} → statement M
 extended_spec = tie.close (tie.spec cast-result cast-result-2 sub-result returns)

@@ -14,49 +14,49 @@ use Rattle.cbf_octets.proofs.difference.read_difference.Tie as tie
 room1 : (c : tie.Start) → c.args.i + 1 ≤ length c.args.octets.now
 room1 c = tries-room c.requires (tries-first c.args.octets.now c.args.i) (omega arith)
 
-second : (c : tie.Else-o) → Tries c.before.before.before.args.octets.now c.before.before.before.args.i
-    (2 ∷ 4 ∷ 8 ∷ []) (c.before.before.before.args.i + 1)
+second : (c : tie.Else-o) → Tries c.args.octets.now c.args.i
+    (2 ∷ 4 ∷ 8 ∷ []) (c.args.i + 1)
 unfolding half
 second c =
-    let a = c.before.before.before.args in
+    let a = c.args in
     tries-next (one-octet a.octets.now a.i (omega (arith, room1 c.before.before.before))) (tries-first a.octets.now a.i) c.if-o.false
 
-room2 : (c : tie.Else-o) → c.before.before.before.args.i + 1 + 2 ≤ length c.before.before.before.args.octets.now
-room2 c = tries-room c.before.before.before.requires (second c) (omega arith)
+room2 : (c : tie.Else-o) → c.args.i + 1 + 2 ≤ length c.args.octets.now
+room2 c = tries-room c.requires (second c) (omega arith)
 
-number2 : (c : tie.After-le2-n2) → Number c.before.before.before.before.args.octets.now
-    (c.before.before.before.before.args.i + 1) 2 c.le2-n2.result (c.before.before.before.before.args.i +
+number2 : (c : tie.After-le2-n2) → Number c.args.octets.now
+    (c.args.i + 1) 2 c.le2-n2.result (c.args.i +
     3)
 number2 c = let h = room2 c.before in record { is = c.le2-n2.ensures.0; after = omega arith; inside = omega arith }
 
-third : (c : tie.Else-n2-ne32768) → Tries c.before.before.before.before.before.args.octets.now
-    c.before.before.before.before.before.args.i (4 ∷ 8 ∷ [])
-    (c.before.before.before.before.before.args.i + 3)
+third : (c : tie.Else-n2-ne32768) → Tries c.args.octets.now
+    c.args.i (4 ∷ 8 ∷ [])
+    (c.args.i + 3)
 unfolding half
 third c = tries-next (number2 c.before) (second c.before.before) c.if-n2-ne32768.false
 
-room4 : (c : tie.Else-n2-ne32768) → c.before.before.before.before.before.args.i + 3 + 4 ≤ length c.before.before.before.before.before.args.octets.now
-room4 c = tries-room c.before.before.before.before.before.requires (third c) (omega arith)
+room4 : (c : tie.Else-n2-ne32768) → c.args.i + 3 + 4 ≤ length c.args.octets.now
+room4 c = tries-room c.requires (third c) (omega arith)
 
-number4 : (c : tie.After-le4-n4) → Number c.before.before.before.before.before.before.args.octets.now
-    (c.before.before.before.before.before.before.args.i + 3) 4 c.le4-n4.result
-    (c.before.before.before.before.before.before.args.i + 7)
+number4 : (c : tie.After-le4-n4) → Number c.args.octets.now
+    (c.args.i + 3) 4 c.le4-n4.result
+    (c.args.i + 7)
 number4 c = let h = room4 c.before in record { is = c.le4-n4.ensures.0; after = omega arith; inside = omega arith }
 
-fourth : (c : tie.Else-n4-ne2147483648) → Tries c.before.before.before.before.before.before.before.args.octets.now
-    c.before.before.before.before.before.before.before.args.i (8 ∷ [])
-    (c.before.before.before.before.before.before.before.args.i + 7)
+fourth : (c : tie.Else-n4-ne2147483648) → Tries c.args.octets.now
+    c.args.i (8 ∷ [])
+    (c.args.i + 7)
 unfolding half
 fourth c = tries-next (number4 c.before) (third c.before.before) c.if-n4-ne2147483648.false
 
-room8 : (c : tie.Else-n4-ne2147483648) → c.before.before.before.before.before.before.before.args.i + 7 + 8 ≤ length
-    c.before.before.before.before.before.before.before.args.octets.now
-room8 c = tries-room c.before.before.before.before.before.before.before.requires (fourth c) (omega arith)
+room8 : (c : tie.Else-n4-ne2147483648) → c.args.i + 7 + 8 ≤ length
+    c.args.octets.now
+room8 c = tries-room c.requires (fourth c) (omega arith)
 
 number8 : (c : tie.After-le8) → Number
-    c.before.before.before.before.before.before.before.before.args.octets.now
-    (c.before.before.before.before.before.before.before.before.args.i + 7) 8 c.le8.result
-    (c.before.before.before.before.before.before.before.before.args.i + 15)
+    c.args.octets.now
+    (c.args.i + 7) 8 c.le8.result
+    (c.args.i + 15)
 number8 c = let h = room8 c.before in record { is = c.le8.ensures.0; after = omega arith; inside = omega arith }
 
 shared-slice-read-o : tie.Need-bounds-octets-i
@@ -71,11 +71,11 @@ add-t11 c = omega (arith, room1 c.before.before.before.before.before)
 returns : tie.Need-returns-then-o
 unfolding half
 returns c =
-    let a = c.before.before.before.before.before.args in
+    let a = c.args in
     let h = room1 c.before.before.before.before.before in
     took-here (one-octet a.octets.now a.i (omega arith)) (tries-first a.octets.now a.i)
-    c.before.before.if-o.true (omega arith) (omega arith) (omega arith) (omega arith)
-    (c.extended.ensures 1 refl ∙ ap (signed 1) c.before.wide.ensures.0)
+    c.if-o.true (omega arith) (omega arith) (omega arith) (omega arith)
+    (c.extended.ensures 1 refl ∙ ap (signed 1) c.wide.ensures.0)
 
 add-le2 : tie.Need-overflow_add-i
 add-le2 c = omega (arith, room2 c)
@@ -92,7 +92,7 @@ add-t14 c = omega (arith, room2 c.before.before.before)
 returns-2 : tie.Need-returns-then-n2-ne32768
 unfolding half
 returns-2 c =
-    took-here (number2 c.before.before) (second c.before.before.before) c.before.if-n2-ne32768.true (omega arith)
+    took-here (number2 c.before.before) (second c.before.before.before) c.if-n2-ne32768.true (omega arith)
     (omega arith) (omega arith) (omega arith) (c.extended-then-n2-ne32768.ensures 2 refl)
 
 add-le4 : tie.Need-overflow_add-i-2
@@ -110,7 +110,7 @@ add-t16 c = omega (arith, room4 c.before.before.before)
 returns-3 : tie.Need-returns-then-n4-ne2147483648
 unfolding half
 returns-3 c =
-    took-here (number4 c.before.before) (third c.before.before.before) c.before.if-n4-ne2147483648.true (omega arith)
+    took-here (number4 c.before.before) (third c.before.before.before) c.if-n4-ne2147483648.true (omega arith)
     (omega arith) (omega arith) (omega arith) (c.extended-then-n4-ne2147483648.ensures 4 refl)
 
 add-le8 : tie.Need-overflow_add-i-3

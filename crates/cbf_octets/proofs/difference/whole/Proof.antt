@@ -12,40 +12,40 @@ use Rattle.cbf_octets.proofs.difference.whole.Statement.{statement}
 use Rattle.cbf_octets.proofs.difference.whole.Tie as tie
 
 -- the widths that are left after an escape
-second : (c : tie.Else-octets-i) → Tries c.before.before.before.before.args.octets.now
-    c.before.before.before.before.args.i (2 ∷ 4 ∷ 8 ∷ []) (c.before.before.before.before.args.i + 1)
+second : (c : tie.Else-octets-i) → Tries c.args.octets.now
+    c.args.i (2 ∷ 4 ∷ 8 ∷ []) (c.args.i + 1)
 unfolding half
-second c = let a = c.before.before.before.before.args in tries-next (one-octet a.octets.now a.i
+second c = let a = c.args in tries-next (one-octet a.octets.now a.i
     (omega arith)) (tries-first a.octets.now a.i) c.if-octets-i.false
 
-number2 : (c : tie.After-le2) → Number c.before.before.before.before.before.before.args.octets.now
-    (c.before.before.before.before.before.before.args.i + 1) 2 c.le2.result
-    (c.before.before.before.before.before.before.args.i + 3)
+number2 : (c : tie.After-le2) → Number c.args.octets.now
+    (c.args.i + 1) 2 c.le2.result
+    (c.args.i + 3)
 number2 c = record { is = c.le2.ensures.0; after = omega arith; inside = omega arith }
 
-third : (c : tie.Else-le2-ne32768) → Tries c.before.before.before.before.before.before.before.args.octets.now
-    c.before.before.before.before.before.before.before.args.i (4 ∷ 8 ∷ [])
-    (c.before.before.before.before.before.before.before.args.i + 3)
+third : (c : tie.Else-le2-ne32768) → Tries c.args.octets.now
+    c.args.i (4 ∷ 8 ∷ [])
+    (c.args.i + 3)
 unfolding half
 third c = tries-next (number2 c.before) (second c.before.before.before) c.if-le2-ne32768.false
 
 number4 : (c : tie.After-le4) → Number
-    c.before.before.before.before.before.before.before.before.before.args.octets.now
-    (c.before.before.before.before.before.before.before.before.before.args.i + 3) 4 c.le4.result
-    (c.before.before.before.before.before.before.before.before.before.args.i + 7)
+    c.args.octets.now
+    (c.args.i + 3) 4 c.le4.result
+    (c.args.i + 7)
 number4 c = record { is = c.le4.ensures.0; after = omega arith; inside = omega arith }
 
-fourth : (c : tie.Else-le4-ne2147483648) → Tries c.before.before.before.before.before.before.before.before.before.before.args.octets.now c.before.before.before.before.before.before.before.before.before.before.args.i
-    (8 ∷ []) (c.before.before.before.before.before.before.before.before.before.before.args.i + 7)
+fourth : (c : tie.Else-le4-ne2147483648) → Tries c.args.octets.now c.args.i
+    (8 ∷ []) (c.args.i + 7)
 unfolding half
 fourth c = tries-next (number4 c.before) (third c.before.before.before) c.if-le4-ne2147483648.false
 
 returns : tie.Need-returns-then-left-lt1
-returns c = let a = c.before.before.args in told-cut (tries-cut (tries-first a.octets.now a.i) (omega arith) (omega arith))
+returns c = let a = c.args in told-cut (tries-cut (tries-first a.octets.now a.i) (omega arith) (omega arith))
 
 returns-2 : tie.Need-returns-then-octets-i
 unfolding half
-returns-2 c = let a = c.before.before.before.before.args in told-got
+returns-2 c = let a = c.args in told-got
     (tries-here (one-octet a.octets.now a.i (omega arith)) (tries-first a.octets.now a.i)
     c.if-octets-i.true)
 
@@ -65,7 +65,7 @@ returns-6 c = told-got (tries-here (number4 c.before) (third c.before.before.bef
 
 returns-7 : tie.Need-returns
 returns-7 c =
-    let a = c.before.before.before.before.before.before.before.before.before.before.args in (
+    let a = c.args in (
       λ e.
           let h = leb-true 15 (length a.octets.now - a.i) e in
           let N : Number a.octets.now (a.i + 7) 8 (number (take 8 (drop (a.i + 7) a.octets.now)))

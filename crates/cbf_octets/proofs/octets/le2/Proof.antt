@@ -7,7 +7,7 @@ use Rattle.cbf_octets.proofs.octets.le2.Tie as tie
 
 returns : tie.Need-returns
 returns c =
-    let a = c.before.before.before.before.before.args in
+    let a = c.args in
     let os = a.octets.now in
     let low = number-one a.i os (omega arith) in
     let high = number-one (a.i + 1) os (omega arith) in

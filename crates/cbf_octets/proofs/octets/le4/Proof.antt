@@ -5,7 +5,7 @@ use Rattle.cbf_octets.proofs.octets.le4.Statement.{statement}
 use Rattle.cbf_octets.proofs.octets.le4.Tie as tie
 
 returns : tie.Need-returns
-returns c = let a = c.before.before.before.args in omega (arith, number-parts 2 2 a.i a.octets.now (omega arith))
+returns c = let a = c.args in omega (arith, number-parts 2 2 a.i a.octets.now (omega arith))
 
 pub le4_spec : {M : Type 1} → statement M
 le4_spec =

@@ -5,7 +5,7 @@ use Rattle.cbf_octets.proofs.octets.le8.Statement.{statement}
 use Rattle.cbf_octets.proofs.octets.le8.Tie as tie
 
 returns : tie.Need-returns
-returns c = let a = c.before.before.before.args in omega (arith, number-parts 4 4 a.i a.octets.now (omega arith))
+returns c = let a = c.args in omega (arith, number-parts 4 4 a.i a.octets.now (omega arith))
 
 pub le8_spec : {M : Type 1} → statement M
 le8_spec =

@@ -10,9 +10,9 @@ use Rattle.cbf_octets.proofs.octets.put2.Tie as tie
 
 returns : tie.Need-returns
 returns c =
-    let a = c.before.before.before.before.before.before.before.before.before.args in
-    c.before.before.put1-2.ensures
-    ∙ ap (λ (l : List ℕ). sets l (a.at + 1) (octets 1 (a.n / 256))) c.before.before.before.before.before.before.put1.ensures
+    let a = c.args in
+    c.put1-2.ensures
+    ∙ ap (λ (l : List ℕ). sets l (a.at + 1) (octets 1 (a.n / 256))) c.put1.ensures
     ∙ octets-parts a.out.now a.at 1 1 a.n
 
 pub put2_spec : {M : Type 1} → statement M

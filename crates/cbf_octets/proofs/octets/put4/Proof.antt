@@ -10,9 +10,9 @@ use Rattle.cbf_octets.proofs.octets.put4.Tie as tie
 
 returns : tie.Need-returns
 returns c =
-    let a = c.before.before.before.before.before.before.before.before.before.args in
-    c.before.before.put2-2.ensures
-    ∙ ap (λ (l : List ℕ). sets l (a.at + 2) (octets 2 (a.n / 65536))) c.before.before.before.before.before.before.put2.ensures
+    let a = c.args in
+    c.put2-2.ensures
+    ∙ ap (λ (l : List ℕ). sets l (a.at + 2) (octets 2 (a.n / 65536))) c.put2.ensures
     ∙ octets-parts a.out.now a.at 2 2 a.n
 
 pub put4_spec : {M : Type 1} → statement M

@@ -10,9 +10,9 @@ use Rattle.cbf_octets.proofs.octets.put8.Tie as tie
 
 returns : tie.Need-returns
 returns c =
-    let a = c.before.before.before.before.before.before.before.before.before.args in
-    c.before.before.put4-2.ensures
-    ∙ ap (λ (l : List ℕ). sets l (a.at + 4) (octets 4 (a.n / 4294967296))) c.before.before.before.before.before.before.put4.ensures
+    let a = c.args in
+    c.put4-2.ensures
+    ∙ ap (λ (l : List ℕ). sets l (a.at + 4) (octets 4 (a.n / 4294967296))) c.put4.ensures
     ∙ octets-parts a.out.now a.at 4 4 a.n
 
 pub put8_spec : {M : Type 1} → statement M

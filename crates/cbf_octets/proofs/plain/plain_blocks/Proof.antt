@@ -14,50 +14,50 @@ abbrev decreases-loop : tie.decreases-loop-n
 decreases-loop octets i limit left n₀ n = limit - n
 
 returns : tie.Need-returns-then-left-lt1 invariant-loop decreases-loop
-returns c = run_none c.before.before.args.octets.now c.before.before.args.i c.before.before.args.limit c.before.before.requires.0
+returns c = run_none c.args.octets.now c.args.i c.args.limit c.requires.0
 
 returns-2 : tie.Need-returns-then-octets-i invariant-loop decreases-loop
-returns-2 c = run_none c.before.before.before.before.args.octets.now c.before.before.before.before.args.i
-    c.before.before.before.before.args.limit c.before.before.before.before.requires.0
+returns-2 c = run_none c.args.octets.now c.args.i
+    c.args.limit c.requires.0
 
 loop-holds : tie.Need-loop-n-init invariant-loop decreases-loop
-loop-holds c = run_none c.before.before.before.before.args.octets.now c.before.before.before.before.args.i
-    c.before.before.before.before.args.limit c.before.before.before.before.requires.0
+loop-holds c = run_none c.args.octets.now c.args.i
+    c.args.limit c.requires.0
 
 sub-loop : tie.Need-overflow_sub-limit invariant-loop decreases-loop
 sub-loop c = c.loop-n.invariant.few
 
 sub-if3 : tie.Need-overflow_sub-left-in-loop-n invariant-loop decreases-loop
-sub-if3 c = let h = c.before.loop-n.invariant.inside in omega arith
+sub-if3 c = let h = c.loop-n.invariant.inside in omega arith
 
 returns-3 : tie.Need-returns-then-left-n-lt32 invariant-loop decreases-loop
-returns-3 c = c.before.before.loop-n.invariant
+returns-3 c = c.loop-n.invariant
 
 add-escapes : tie.Need-overflow_add-i invariant-loop decreases-loop
-add-escapes c = let h = c.before.before.loop-n.invariant.inside in omega arith
+add-escapes c = let h = c.loop-n.invariant.inside in omega arith
 
 escapes-requires : tie.Need-escapes-requires invariant-loop decreases-loop
-escapes-requires c κs = let h = c.before.before.loop-n.invariant.inside in omega arith
+escapes-requires c κs = let h = c.loop-n.invariant.inside in omega arith
 
 returns-4 : tie.Need-returns-then-escapes invariant-loop decreases-loop
-returns-4 c = c.before.before.before.before.loop-n.invariant
+returns-4 c = c.loop-n.invariant
 
 add-n : tie.Need-overflow_add-n invariant-loop decreases-loop
-add-n c = let h = c.before.before.before.before.loop-n.invariant.inside in omega arith
+add-n c = let h = c.loop-n.invariant.inside in omega arith
 
 loop-less : tie.Need-loop-n-smaller invariant-loop decreases-loop
-loop-less c = let h = c.before.before.before.before.loop-n.invariant.few in omega arith
+loop-less c = let h = c.loop-n.invariant.few in omega arith
 
 loop-again : tie.Need-loop-n-preserved invariant-loop decreases-loop
 loop-again c =
-    let a = c.before.before.before.before.before.before.before.before.before.args in
-    let l = c.before.before.before.before.loop-n in
+    let a = c.args in
+    let l = c.loop-n in
     let h = l.invariant.inside in
-    run_more a.octets.now a.i a.limit l.n c.before.before.before.before.before.before.before.before.before.requires.1 l.invariant
-    (omega arith) (omega arith) (c.before.escapes.ensures c.if-escapes.false)
+    run_more a.octets.now a.i a.limit l.n c.requires.1 l.invariant
+    (omega arith) (omega arith) (c.escapes.ensures c.if-escapes.false)
 
 returns-5 : tie.Need-returns invariant-loop decreases-loop
-returns-5 c = c.before.loop-n.invariant
+returns-5 c = c.loop-n.invariant
 
 pub plain_blocks_spec : {M : Type 1} → statement M
 plain_blocks_spec =

@@ -9,7 +9,7 @@ returns : tie.Need-returns-then-ended
 returns c = (λ e. never e, λ _. inl c.if-ended.true)
 
 returns-2 : tie.Need-returns
-returns-2 c = (λ e. (c.if-ended.false, ltb-true c.before.args.left 480 e), λ e. inr (ltb-false c.before.args.left 480 e))
+returns-2 c = (λ e. (c.if-ended.false, ltb-true c.args.left 480 e), λ e. inr (ltb-false c.args.left 480 e))
 
 pub waits_spec : {M : Type 1} → statement M
 waits_spec = tie.close (tie.spec returns returns-2)

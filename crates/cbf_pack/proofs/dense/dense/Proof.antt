@@ -9,7 +9,7 @@ returns : tie.Need-returns-then-used-le256
 returns c = λ e. never e
 
 returns-2 : tie.Need-returns
-returns-2 c = λ e. ltb-true (c.before.args.n + 7) c.before.args.left e
+returns-2 c = λ e. ltb-true (c.args.n + 7) c.args.left e
 
 pub dense_spec : {M : Type 1} → statement M
 dense_spec = tie.close (tie.spec returns (λ c. search rules) returns-2)

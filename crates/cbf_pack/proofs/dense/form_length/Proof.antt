@@ -4,7 +4,7 @@ use Rattle.cbf_pack.proofs.dense.form_length.Statement.{statement}
 use Rattle.cbf_pack.proofs.dense.form_length.Tie as tie
 
 returns : tie.Need-returns
-returns c = length_is c.before.args.table.now c.before.args.c c.before.requires.0 c.before.requires.1
+returns c = length_is c.args.table.now c.args.c c.requires.0 c.requires.1
 
 pub form_length_spec : {M : Type 1} → statement M
 form_length_spec = tie.close (tie.spec (λ c. search rules) (λ c. search rules) (λ c. search rules) returns)

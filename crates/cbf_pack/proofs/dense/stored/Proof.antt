@@ -14,13 +14,13 @@ is : (s : tie.Start) → (get_or s.args.table.now s.args.c 0 < 64)
 is s = stored_is s.args.table.now s.args.n s.args.c s.requires.0 s.requires.1 s.requires.2
 
 shl-result : tie.Need-overflow_shl-result
-shl-result c = (is c.before.before).0
+shl-result c = (is c.before.before.before).0
 
 add-result : tie.Need-overflow_add-result
-add-result c = let i = is c.before.before in record { fits = omega (arith, i.1, i.2) }
+add-result c = let i = is c.before.before.before in record { fits = omega (arith, i.1, i.2) }
 
 returns : tie.Need-returns
-returns c = (is c.before.before).1
+returns c = (is c.before.before.before).1
 
 pub stored_spec : {M : Type 1} → statement M
 stored_spec =

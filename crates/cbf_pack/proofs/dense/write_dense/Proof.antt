@@ -23,40 +23,40 @@ loop-holds : tie.Need-loop-j-init invariant-loop decreases-loop
 loop-holds c = (along-none refl refl, omega arith)
 
 add-z : tie.Need-overflow_add-z invariant-loop decreases-loop
-add-z c = omega (arith, c.before.before.before.requires.1.pixels)
+add-z c = omega (arith, c.requires.1.pixels)
 
 mul-z : tie.Need-offset_bounds-pixels-k invariant-loop decreases-loop
-mul-z c = omega (arith, c.before.before.before.requires.1.pixels)
+mul-z c = omega (arith, c.requires.1.pixels)
 
 shared-slice-copy-out-z : tie.Need-bounds-pixels-k invariant-loop decreases-loop
-shared-slice-copy-out-z c = omega (arith, c.before.before.before.requires.1.pixels)
+shared-slice-copy-out-z c = omega (arith, c.requires.1.pixels)
 
-room : (c : tie.After-put_over-arg-1 invariant-loop decreases-loop) → Writable c.before.before.before.before.before.args.pixels.now
-    (c.before.before.before.before.before.args.k + c.before.before.before.loop-j.j) 1 (to_z w64 c.before.before.before.loop-j.before)
-    c.before.before.before.loop-j.out c.before.before.before.loop-j.next
-room c = along-writable (writable-word c.before.before.before.before.before.requires.1) c.before.before.before.loop-j.invariant.0 1 _ refl (omega arith)
+room : (c : tie.After-put_over-arg-1 invariant-loop decreases-loop) → Writable c.args.pixels.now
+    (c.args.k + c.loop-j.j) 1 (to_z w64 c.loop-j.before-bits)
+    c.loop-j.out c.loop-j.next
+room c = along-writable (writable-word c.requires.1) c.loop-j.invariant.0 1 _ refl (omega arith)
 
 sub-put-over : tie.Need-overflow_sub-z invariant-loop decreases-loop
-sub-put-over c = gap-fits c.before.before.before.loop-j.before (room c)
+sub-put-over c = gap-fits c.loop-j.before-bits (room c)
 
 put-over-requires : tie.Need-put_over-next-requires invariant-loop decreases-loop
 put-over-requires c κs = (
-  c.before.before.before.before.before.requires.0,
-  along-room (writable-word c.before.before.before.before.before.requires.1) c.before.before.before.loop-j.invariant.0 8 _ refl (omega arith),
-  gap-room c.before.before.before.loop-j.before (room c),
+  c.requires.0,
+  along-room (writable-word c.requires.1) c.loop-j.invariant.0 8 _ refl (omega arith),
+  gap-room c.loop-j.before-bits (room c),
 )
 
 loop-again : tie.Need-loop-j-preserved invariant-loop decreases-loop
 loop-again c =
     let s = c.before.before.before.before.before.before.before.before in
-    let l = c.before.before.before.before.before.before.loop-j in
-    (along_one (writable-word s.requires.1) l.invariant.0 (s.args.k + l.j) refl (omega arith) c.before.before.put_over-next.ensures, omega arith)
+    let l = c.loop-j in
+    (along_one (writable-word s.requires.1) l.invariant.0 (s.args.k + l.j) refl (omega arith) c.put_over-next.ensures, omega arith)
 
 same_length : tie.Need-shape_of-out invariant-loop decreases-loop
-same_length c = along-same c.before.loop-j.invariant.0
+same_length c = along-same c.loop-j.invariant.0
 
 returns : tie.Need-returns invariant-loop decreases-loop
-returns c = along-all c.before.loop-j.invariant.0 c.before.before.before.requires.1.before (omega arith)
+returns c = along-all c.loop-j.invariant.0 c.requires.1.before (omega arith)
 
 pub write_dense_spec : {M : Type 1} → statement M
 write_dense_spec =

@@ -8,26 +8,26 @@ use Rattle.cbf_pack.proofs.packing.pack.Tie as tie
 returns : tie.Need-returns-then-pixels-gt-PIXEL_LIMIT
 unfolding Packed
 returns c =
-    let a = c.before.before.before.args in
-    let u = pack-many a.kind a.pixels.now a.out.now c.before.if-pixels-gt-PIXEL_LIMIT.true in
+    let a = c.args in
+    let u = pack-many a.kind a.pixels.now a.out.now c.if-pixels-gt-PIXEL_LIMIT.true in
     (c.refused.ensures ∙ u.0, u.1)
 
 write-octets-requires : tie.Need-write_octets-n-requires
 write-octets-requires c κs =
-    let a = c.before.before.before.before.before.before.args in
-    ample-write a.kind a.pixels.now a.out.now c.before.before.before.before.if-pixels-gt-PIXEL_LIMIT.false
-    (c.before.before.all_typed.ensures (not-false c.before.before.all_typed.result c.before.if-not-all_typed.false))
-    c.before.before.before.if-out-pixels.false
+    let a = c.args in
+    ample-write a.kind a.pixels.now a.out.now c.if-pixels-gt-PIXEL_LIMIT.false
+    (c.all_typed.ensures (c.if-not-all_typed.false))
+    c.if-out-pixels.false
 
 returns-4 : tie.Need-returns
 unfolding Packed
 returns-4 c =
-    let a = c.before.before.before.before.before.before.before.before.before.args in
-    let t = c.before.before.before.before.before.all_typed in
-    ample-done a.kind a.pixels.now a.out.now c.before.before.before.before.before.before.before.if-pixels-gt-PIXEL_LIMIT.false
-    (t.ensures (not-false t.result c.before.before.before.before.if-not-all_typed.false))
-    c.before.before.before.before.before.before.if-out-pixels.false _ _
-    c.before.before.write_octets-n.ensures.0 c.before.before.write_octets-n.ensures.1
+    let a = c.args in
+    let t = c.all_typed in
+    ample-done a.kind a.pixels.now a.out.now c.if-pixels-gt-PIXEL_LIMIT.false
+    (t.ensures (c.if-not-all_typed.false))
+    c.if-out-pixels.false _ _
+    c.write_octets-n.ensures.0 c.write_octets-n.ensures.1
 
 pub pack_spec : {M : Type 1} → statement M
 pack_spec =

@@ -9,23 +9,23 @@ unfolding Packed
 returns c =
     let s = c.before.before.before.before.before.before.before in
     let u = pack-no-room s.args.kind s.args.pixels.now s.args.out.now _ s.requires
-    (sym c.before.before.before.size-1.given.1 ∙ c.before.before.before.before.before.octet_count-size.ensures)
-    c.before.if-out-n.true in
+    (sym c.in-Octets.is ∙ c.octet_count-size.ensures)
+    c.if-out-n.true in
     (c.refused-then-out-n.ensures ∙ u.0, u.1)
 
 write-octets-requires : tie.Need-write_octets-requires
 write-octets-requires c κs =
     let s = c.before.before.before.before.before.before.before in
     may_write s.args.kind s.args.pixels.now s.args.out.now _ s.requires
-    (sym c.before.before.before.size-1.given.1 ∙ c.before.before.before.before.before.octet_count-size.ensures)
-    c.before.if-out-n.false
+    (sym c.in-Octets.is ∙ c.octet_count-size.ensures)
+    c.if-out-n.false
 
 returns-2 : tie.Need-returns-in-Outside
 unfolding Packed
 returns-2 c =
     let s = c.before.before.before.before.before in
     let u = pack-outside s.args.kind s.args.pixels.now s.args.out.now s.requires
-    (sym c.before.enum_told-1.given.1 ∙ c.before.before.before.octet_count-size.ensures) in
+    (sym c.in-Outside.is ∙ c.octet_count-size.ensures) in
     (c.refused.ensures ∙ u.0, u.1)
 
 returns-3 : tie.Need-returns-else-out-n
@@ -33,9 +33,9 @@ unfolding Packed
 returns-3 c =
     let s = c.before.before.before.before.before.before.before.before.before.before in
     pack-done s.args.kind s.args.pixels.now s.args.out.now _ s.requires
-    (sym c.before.before.before.before.before.before.size-1.given.1
-    ∙ c.before.before.before.before.before.before.before.before.octet_count-size.ensures) _
-    c.before.before.before.before.if-out-n.false c.before.before.write_octets.ensures.1
+    (sym c.in-Octets.is
+    ∙ c.octet_count-size.ensures) _
+    c.if-out-n.false c.write_octets.ensures.1
 
 pub pack_counted_spec : {M : Type 1} → statement M
 pack_counted_spec =

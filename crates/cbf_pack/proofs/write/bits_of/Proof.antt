@@ -23,11 +23,11 @@ add-result : tie.Need-overflow_add-result
 add-result c = fits-pos _ (lifted c.args.d c.args.size) (sum c) (small c)
 
 cast-result-2 : tie.Need-overflow_cast-result-2
-cast-result-2 c = unsigned _ (lifted c.args.d c.args.size) (to_z-of_z (add-result c) ∙ sum c) (small c)
+cast-result-2 c = unsigned _ (lifted c.args.d c.args.size) (to_z-of_z {w = w64} (add-result c) ∙ sum c) (small c)
 
 returns : tie.Need-returns
 returns c k e =
-    ap (λ (n : ℕ). n % c.args.size) (ap nat_abs (to_z-of_z (add-result c) ∙ sum c))
+    ap (λ (n : ℕ). n % c.args.size) (ap nat_abs (to_z-of_z {w = w64} (add-result c) ∙ sum c))
     ∙ lifted-bits c.args.d c.args.size k (omega arith) e
 
 pub bits_of_spec : {M : Type 1} → statement M

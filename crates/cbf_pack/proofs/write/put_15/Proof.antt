@@ -12,9 +12,9 @@ use Rattle.cbf_pack.proofs.write.put_15.Tie as tie
 returns : tie.Need-returns
 unfolding octets
 returns c =
-    let a = c.before.before.before.before.before.before.before.before.before.args in
-    c.before.before.put8.ensures
-    ∙ ap (λ (l : List ℕ). sets l (a.at + 7) (octets 8 a.n)) c.before.before.before.before.before.before.put_7.ensures
+    let a = c.args in
+    c.put8.ensures
+    ∙ ap (λ (l : List ℕ). sets l (a.at + 7) (octets 8 a.n)) c.put_7.ensures
     ∙ sets_then a.out.now a.at 7 (octets 1 128 ++ octets 2 32768 ++ octets 4 2147483648) (octets 8 a.n) refl
 
 pub put_15_spec : {M : Type 1} → statement M

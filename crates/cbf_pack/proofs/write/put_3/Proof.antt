@@ -12,9 +12,9 @@ use Rattle.cbf_pack.proofs.write.put_3.Tie as tie
 returns : tie.Need-returns
 unfolding octets
 returns c =
-    let a = c.before.before.before.before.before.before.before.before.before.args in
-    c.before.before.put2.ensures
-    ∙ ap (λ (l : List ℕ). sets l (a.at + 1) (octets 2 a.n)) c.before.before.before.before.before.before.put1.ensures
+    let a = c.args in
+    c.put2.ensures
+    ∙ ap (λ (l : List ℕ). sets l (a.at + 1) (octets 2 a.n)) c.put1.ensures
     ∙ sets_then a.out.now a.at 1 (octets 1 128) (octets 2 a.n) refl
 
 pub put_3_spec : {M : Type 1} → statement M

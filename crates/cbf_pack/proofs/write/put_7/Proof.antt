@@ -12,9 +12,9 @@ use Rattle.cbf_pack.proofs.write.put_7.Tie as tie
 returns : tie.Need-returns
 unfolding octets
 returns c =
-    let a = c.before.before.before.before.before.before.before.before.before.args in
-    c.before.before.put4-2.ensures
-    ∙ ap (λ (l : List ℕ). sets l (a.at + 3) (octets 4 a.n)) c.before.before.before.before.before.before.put4.ensures
+    let a = c.args in
+    c.put4-2.ensures
+    ∙ ap (λ (l : List ℕ). sets l (a.at + 3) (octets 4 a.n)) c.put4.ensures
     ∙ sets_over a.out.now a.at 3 0 (a.n % 256) (128 ∷ 0 ∷ 128 ∷ []) (octets 3 (a.n / 256)) refl
 
 pub put_7_spec : {M : Type 1} → statement M

@@ -1,4 +1,5 @@
 -- `write::put_difference` meets its contract: the tests tell the form of the difference's octets. Assumes nothing.
+use mir.Syntax.{w64}
 use borrow.Author.Rules.{rules}
 use Prim.Native.Nat.{ℕ, ◌<◌, ◌≤◌}
 use native.Mathlib.Omega.{arith}
@@ -15,46 +16,46 @@ use Rattle.cbf_pack.proofs.write.put_difference.Tie as tie
 
 -- what the tests say of the difference
 
-below-128 : (c : tie.Then-narrow) → nat_abs c.before.before.before.args.d < 128
-below-128 c = narrow-true c.before.before.before.args.d 128 c.before.narrow.result c.before.before.before.ranges.d
-    c.before.narrow.ensures c.if-narrow.true
+below-128 : (c : tie.Then-narrow) → nat_abs c.args.d < 128
+below-128 c = narrow-true c.args.d 128 c.narrow.result c.ranges.d
+    c.narrow.ensures c.if-narrow.true
 
-from-128 : (c : tie.Else-narrow) → 128 ≤ nat_abs c.before.before.before.args.d
-from-128 c = narrow-false c.before.before.before.args.d 128 c.before.narrow.result c.before.before.before.ranges.d
-    c.before.narrow.ensures c.if-narrow.false
+from-128 : (c : tie.Else-narrow) → 128 ≤ nat_abs c.args.d
+from-128 c = narrow-false c.args.d 128 c.narrow.result c.ranges.d
+    c.narrow.ensures c.if-narrow.false
 
-below-32768 : (c : tie.Then-narrow-2) → nat_abs c.before.before.before.before.before.args.d < 32768
-below-32768 c = narrow-true c.before.before.before.before.before.args.d 32768 c.before.narrow-2.result
-    c.before.before.before.before.before.ranges.d c.before.narrow-2.ensures c.if-narrow-2.true
+below-32768 : (c : tie.Then-narrow-2) → nat_abs c.args.d < 32768
+below-32768 c = narrow-true c.args.d 32768 c.narrow-2.result
+    c.ranges.d c.narrow-2.ensures c.if-narrow-2.true
 
-from-32768 : (c : tie.Else-narrow-2) → 32768 ≤ nat_abs c.before.before.before.before.before.args.d
-from-32768 c = narrow-false c.before.before.before.before.before.args.d 32768 c.before.narrow-2.result
-    c.before.before.before.before.before.ranges.d c.before.narrow-2.ensures c.if-narrow-2.false
+from-32768 : (c : tie.Else-narrow-2) → 32768 ≤ nat_abs c.args.d
+from-32768 c = narrow-false c.args.d 32768 c.narrow-2.result
+    c.ranges.d c.narrow-2.ensures c.if-narrow-2.false
 
-below-2147483648 : (c : tie.Then-narrow-3) → nat_abs c.before.before.before.before.before.before.before.args.d < 2147483648
-below-2147483648 c = narrow-true c.before.before.before.before.before.before.before.args.d 2147483648 c.before.narrow-3.result
-    c.before.before.before.before.before.before.before.ranges.d c.before.narrow-3.ensures c.if-narrow-3.true
+below-2147483648 : (c : tie.Then-narrow-3) → nat_abs c.args.d < 2147483648
+below-2147483648 c = narrow-true c.args.d 2147483648 c.narrow-3.result
+    c.ranges.d c.narrow-3.ensures c.if-narrow-3.true
 
-from-2147483648 : (c : tie.Else-narrow-3) → 2147483648 ≤ nat_abs c.before.before.before.before.before.before.before.args.d
-from-2147483648 c = narrow-false c.before.before.before.before.before.before.before.args.d 2147483648 c.before.narrow-3.result
-    c.before.before.before.before.before.before.before.ranges.d c.before.narrow-3.ensures c.if-narrow-3.false
+from-2147483648 : (c : tie.Else-narrow-3) → 2147483648 ≤ nat_abs c.args.d
+from-2147483648 c = narrow-false c.args.d 2147483648 c.narrow-3.result
+    c.ranges.d c.narrow-3.ensures c.if-narrow-3.false
 
 -- and of its octets
 
-form-1 : (c : tie.Then-narrow) → Form c.before.before.before.args.d 1 (octets 1 (bits 1 c.before.before.before.args.d))
-form-1 c = form1 c.before.before.before.args.d (below-128 c)
+form-1 : (c : tie.Then-narrow) → Form c.args.d 1 (octets 1 (bits 1 c.args.d))
+form-1 c = form1 c.args.d (below-128 c)
 
-form-3 : (c : tie.Then-narrow-2) → Form c.before.before.before.before.before.args.d 3
-    (octets 1 128 ++ octets 2 (bits 2 c.before.before.before.before.before.args.d))
-form-3 c = form2 c.before.before.before.before.before.args.d (from-128 c.before.before) (below-32768 c)
+form-3 : (c : tie.Then-narrow-2) → Form c.args.d 3
+    (octets 1 128 ++ octets 2 (bits 2 c.args.d))
+form-3 c = form2 c.args.d (from-128 c.before.before) (below-32768 c)
 
-form-7 : (c : tie.Then-narrow-3) → Form c.before.before.before.before.before.before.before.args.d 7
-    (octets 1 128 ++ octets 2 32768 ++ octets 4 (bits 4 c.before.before.before.before.before.before.before.args.d))
-form-7 c = form4 c.before.before.before.before.before.before.before.args.d (from-32768 c.before.before) (below-2147483648 c)
+form-7 : (c : tie.Then-narrow-3) → Form c.args.d 7
+    (octets 1 128 ++ octets 2 32768 ++ octets 4 (bits 4 c.args.d))
+form-7 c = form4 c.args.d (from-32768 c.before.before) (below-2147483648 c)
 
-form-15 : (c : tie.Else-narrow-3) → Form c.before.before.before.before.before.before.before.args.d 15
-    (octets 1 128 ++ octets 2 32768 ++ octets 4 2147483648 ++ octets 8 (bits 8 c.before.before.before.before.before.before.before.args.d))
-form-15 c = form8 c.before.before.before.before.before.before.before.args.d (from-2147483648 c)
+form-15 : (c : tie.Else-narrow-3) → Form c.args.d 15
+    (octets 1 128 ++ octets 2 32768 ++ octets 4 2147483648 ++ octets 8 (bits 8 c.args.d))
+form-15 c = form8 c.args.d (from-2147483648 c)
 
 bits-of-requires : tie.Need-bits_of-requires
 bits-of-requires c κs =
@@ -70,9 +71,9 @@ returns : tie.Need-returns-then-narrow
 returns c =
     let s = c.before.before.before.before.before.before.before.before in
     let out = s.args.out.now in
-    let b = c.before.before.before.bits_of.ensures 1 refl ∙ ap (bits 1) (to_z-of_z s.ranges.d) in
+    let b = c.bits_of.ensures 1 refl ∙ ap (bits 1) (to_z-of_z {w = w64} s.ranges.d) in
     form-done out s.args.at _ (form-1 c.before.before.before.before.before)
-    (c.before.before.put1.ensures ∙ ap (λ (n : ℕ). sets out s.args.at (octets 1 n)) b)
+    (c.put1.ensures ∙ ap (λ (n : ℕ). sets out s.args.at (octets 1 n)) b)
 
 bits-of-requires-2 : tie.Need-bits_of-requires-then-narrow-2
 bits-of-requires-2 c κs =
@@ -88,9 +89,9 @@ returns-2 : tie.Need-returns-then-narrow-2
 returns-2 c =
     let s = c.before.before.before.before.before.before.before.before.before.before in
     let out = s.args.out.now in
-    let b = c.before.before.before.bits_of-then-narrow-2.ensures 2 refl ∙ ap (bits 2) (to_z-of_z s.ranges.d) in
+    let b = c.bits_of-then-narrow-2.ensures 2 refl ∙ ap (bits 2) (to_z-of_z {w = w64} s.ranges.d) in
     form-done out s.args.at _ (form-3 c.before.before.before.before.before)
-    (c.before.before.put_3.ensures ∙ ap (λ (n : ℕ). sets out s.args.at (octets 1 128 ++ octets 2 n)) b)
+    (c.put_3.ensures ∙ ap (λ (n : ℕ). sets out s.args.at (octets 1 128 ++ octets 2 n)) b)
 
 bits-of-requires-3 : tie.Need-bits_of-requires-then-narrow-3
 bits-of-requires-3 c κs =
@@ -106,9 +107,9 @@ returns-3 : tie.Need-returns-then-narrow-3
 returns-3 c =
     let s = c.before.before.before.before.before.before.before.before.before.before.before.before in
     let out = s.args.out.now in
-    let b = c.before.before.before.bits_of-then-narrow-3.ensures 4 refl ∙ ap (bits 4) (to_z-of_z s.ranges.d) in
+    let b = c.bits_of-then-narrow-3.ensures 4 refl ∙ ap (bits 4) (to_z-of_z {w = w64} s.ranges.d) in
     form-done out s.args.at _ (form-7 c.before.before.before.before.before)
-    (c.before.before.put_7.ensures ∙ ap (λ (n : ℕ). sets out s.args.at (octets 1 128 ++ octets 2 32768 ++ octets 4 n)) b)
+    (c.put_7.ensures ∙ ap (λ (n : ℕ). sets out s.args.at (octets 1 128 ++ octets 2 32768 ++ octets 4 n)) b)
 
 put-15-requires : tie.Need-put_15-requires
 put-15-requires c κs =
@@ -119,9 +120,9 @@ returns-4 : tie.Need-returns
 returns-4 c =
     let s = c.before.before.before.before.before.before.before.before.before.before.before.before in
     let out = s.args.out.now in
-    let b = c.before.before.before.bits_of_far.ensures ∙ ap (bits 8) (to_z-of_z s.ranges.d) in
+    let b = c.bits_of_far.ensures ∙ ap (bits 8) (to_z-of_z {w = w64} s.ranges.d) in
     form-done out s.args.at _ (form-15 c.before.before.before.before.before)
-    (c.before.before.put_15.ensures ∙ ap (λ (n : ℕ). sets out s.args.at (octets 1 128 ++ octets 2 32768 ++ octets 4 2147483648 ++ octets 8 n)) b)
+    (c.put_15.ensures ∙ ap (λ (n : ℕ). sets out s.args.at (octets 1 128 ++ octets 2 32768 ++ octets 4 2147483648 ++ octets 8 n)) b)
 
 pub put_difference_spec : {M : Type 1} → statement M
 put_difference_spec =

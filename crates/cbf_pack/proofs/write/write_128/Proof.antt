@@ -22,22 +22,22 @@ loop-holds c = (upto-none refl refl, omega arith)
 
 write-four-requires : tie.Need-write_four-next-requires invariant-loop decreases-loop
 write-four-requires c κs =
-    upto-writable (writable-word c.before.before.before.before.requires) c.before.before.loop-j.invariant.0 4 _ refl (omega arith)
+    upto-writable (writable-word c.requires) c.loop-j.invariant.0 4 _ refl (omega arith)
 
 loop-again : tie.Need-loop-j-preserved invariant-loop decreases-loop
 loop-again c =
     let s = c.before.before.before.before.before.before.before.before in
-    let l = c.before.before.before.before.before.before.loop-j in (
+    let l = c.loop-j in (
       upto-more (writable-word s.requires) l.invariant.0 4 _ refl (omega arith) (s.args.k + l.j + 3) (omega arith) (omega arith)
-          c.before.before.before.write_four-next.ensures,
+          c.write_four-next.ensures,
       omega arith,
     )
 
 same_length : tie.Need-shape_of-out invariant-loop decreases-loop
-same_length c = wrote-length c.before.loop-j.invariant.0.wrote
+same_length c = wrote-length c.loop-j.invariant.0.wrote
 
 returns : tie.Need-returns invariant-loop decreases-loop
-returns c = upto_all c.before.loop-j.invariant.0 c.before.before.before.requires.before (omega arith)
+returns c = upto_all c.loop-j.invariant.0 c.requires.before (omega arith)
 
 pub write_128_spec : {M : Type 1} → statement M
 write_128_spec =

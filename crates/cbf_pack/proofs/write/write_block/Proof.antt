@@ -41,27 +41,27 @@ shared-slice-copy-out-z : tie.Need-bounds-pixels-k invariant-loop decreases-loop
 shared-slice-copy-out-z c = omega (arith, (writable c.before.before.before).pixels)
 
 add-put1 : tie.Need-overflow_add-at invariant-loop decreases-loop
-add-put1 c = omega (arith, c.before.before.before.before.before.requires.3)
+add-put1 c = omega (arith, c.requires.3)
 
 room : (c : tie.After-put1-arg-1 invariant-loop decreases-loop)
-    → Writable c.before.before.before.before.before.args.pixels.now
-    (c.before.before.before.before.before.args.k + c.before.before.before.loop-j.j) 1
-    (to_z w64 c.before.before.before.loop-j.before) c.before.before.before.loop-j.out
-    (c.before.before.before.before.before.args.at + c.before.before.before.loop-j.j)
-room c = upto-writable (writable c.before.before.before.before.before) c.before.before.before.loop-j.invariant 1 _ refl (omega arith)
+    → Writable c.args.pixels.now
+    (c.args.k + c.loop-j.j) 1
+    (to_z w64 c.loop-j.before-bits) c.loop-j.out
+    (c.args.at + c.loop-j.j)
+room c = upto-writable (writable c.before.before.before.before.before) c.loop-j.invariant 1 _ refl (omega arith)
 
 -- the difference takes one octet
 near : (c : tie.After-put1-arg-1 invariant-loop decreases-loop)
-    → nat_abs (to_z w64 (of_z w64 (gap c.before.before.before.before.before.args.pixels.now
-    (c.before.before.before.before.before.args.k + c.before.before.before.loop-j.j)
-    c.before.before.before.loop-j.before))) < 128
+    → nat_abs (to_z w64 (of_z w64 (gap c.args.pixels.now
+    (c.args.k + c.loop-j.j)
+    c.loop-j.before-bits))) < 128
 near c =
-    let l = c.before.before.before.loop-j in
-    subst (λ (z : ℤ). nat_abs z < 128) (sym (gap_word l.before (room c)))
+    let l = c.loop-j in
+    subst (λ (z : ℤ). nat_abs z < 128) (sym (gap_word l.before-bits (room c)))
     (upto-near (in_window c.before.before.before.before.before) l.invariant (omega arith))
 
 sub-bits-of : tie.Need-overflow_sub-z invariant-loop decreases-loop
-sub-bits-of c = gap-fits c.before.before.before.loop-j.before (room c)
+sub-bits-of c = gap-fits c.loop-j.before-bits (room c)
 
 bits-of-requires : tie.Need-bits_of-requires invariant-loop decreases-loop
 bits-of-requires c κs = omega (arith, near c)
@@ -69,26 +69,26 @@ bits-of-requires c κs = omega (arith, near c)
 put1-requires : tie.Need-put1-requires invariant-loop decreases-loop
 put1-requires c κs = omega (
   arith,
-  c.before.before.before.before.before.before.requires.3,
+  c.requires.3,
   wrote-length
-      c.before.before.before.before.loop-j.invariant.wrote,
+      c.loop-j.invariant.wrote,
 )
 
 loop-again : tie.Need-loop-j-preserved invariant-loop decreases-loop
 loop-again c =
     let s = c.before.before.before.before.before.before.before.before.before in
-    let l = c.before.before.before.before.before.before.before.loop-j in
-    let d = to_z w64 (of_z w64 (gap s.args.pixels.now (s.args.k + l.j) l.before)) in
+    let l = c.loop-j in
+    let d = to_z w64 (of_z w64 (gap s.args.pixels.now (s.args.k + l.j) l.before-bits)) in
     let p =
-    form-done l.out-1 (s.args.at + l.j) c.before.before.put1.new.0 (form1 d (near c.before.before.before.before))
-    (c.before.before.put1.ensures ∙ ap (λ (n : ℕ). sets l.out-1 (s.args.at + l.j) (octets 1 n)) (c.before.before.before.bits_of.ensures 1 refl)) in
+    form-done l.out (s.args.at + l.j) c.put1.new.out (form1 d (near c.before.before.before.before))
+    (c.put1.ensures ∙ ap (λ (n : ℕ). sets l.out (s.args.at + l.j) (octets 1 n)) (c.bits_of.ensures 1 refl)) in
     upto-one (writable s) l.invariant (s.args.k + l.j) refl (omega arith) (omega (arith, p.0), p.1)
 
 same_length : tie.Need-shape_of-out invariant-loop decreases-loop
-same_length c = wrote-length c.before.loop-j.invariant.wrote
+same_length c = wrote-length c.loop-j.invariant.wrote
 
 returns : tie.Need-returns invariant-loop decreases-loop
-returns c = (upto_all c.before.loop-j.invariant c.before.before.before.requires.2 (omega arith)).octets
+returns c = (upto_all c.loop-j.invariant c.requires.2 (omega arith)).octets
 
 pub write_block_spec : {M : Type 1} → statement M
 write_block_spec =

@@ -21,29 +21,29 @@ loop-holds : tie.Need-loop-j-init invariant-loop decreases-loop
 loop-holds c = upto-none refl refl
 
 room : (c : tie.After-put_difference-arg-1 invariant-loop decreases-loop)
-    → Writable c.before.before.before.before.before.args.pixels.now
-    (c.before.before.before.before.before.args.k + c.before.before.before.loop-j.j) 1
-    (to_z w64 c.before.before.before.loop-j.before) c.before.before.before.loop-j.out
-    c.before.before.before.loop-j.next
-room c = upto-writable (writable-word c.before.before.before.before.before.requires) c.before.before.before.loop-j.invariant 1 _ refl (omega arith)
+    → Writable c.args.pixels.now
+    (c.args.k + c.loop-j.j) 1
+    (to_z w64 c.loop-j.before-bits) c.loop-j.out
+    c.loop-j.next
+room c = upto-writable (writable-word c.requires) c.loop-j.invariant 1 _ refl (omega arith)
 
 sub-put-difference : tie.Need-overflow_sub-z invariant-loop decreases-loop
-sub-put-difference c = gap-fits c.before.before.before.loop-j.before (room c)
+sub-put-difference c = gap-fits c.loop-j.before-bits (room c)
 
 put-difference-requires : tie.Need-put_difference-next-requires invariant-loop decreases-loop
-put-difference-requires c κs = gap-room c.before.before.before.loop-j.before (room c)
+put-difference-requires c κs = gap-room c.loop-j.before-bits (room c)
 
 loop-again : tie.Need-loop-j-preserved invariant-loop decreases-loop
 loop-again c =
     let s = c.before.before.before.before.before.before.before.before in
-    let l = c.before.before.before.before.before.before.loop-j in
-    upto-one (writable-word s.requires) l.invariant (s.args.k + l.j) refl (omega arith) c.before.before.put_difference-next.ensures
+    let l = c.loop-j in
+    upto-one (writable-word s.requires) l.invariant (s.args.k + l.j) refl (omega arith) c.put_difference-next.ensures
 
 same_length : tie.Need-shape_of-out invariant-loop decreases-loop
-same_length c = wrote-length c.before.loop-j.invariant.wrote
+same_length c = wrote-length c.loop-j.invariant.wrote
 
 returns : tie.Need-returns invariant-loop decreases-loop
-returns c = upto_all c.before.loop-j.invariant c.before.before.before.requires.before (omega arith)
+returns c = upto_all c.loop-j.invariant c.requires.before (omega arith)
 
 pub write_each_spec : {M : Type 1} → statement M
 write_each_spec =

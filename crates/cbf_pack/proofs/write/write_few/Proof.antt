@@ -9,10 +9,10 @@ use Rattle.cbf_pack.proofs.write.write_few.Statement.{statement}
 use Rattle.cbf_pack.proofs.write.write_few.Tie as tie
 
 write-each-requires : tie.Need-write_each-requires
-write-each-requires c κs = writable-word c.before.before.before.requires.0
+write-each-requires c κs = writable-word c.requires.0
 
 returns : tie.Need-returns-then-n-lt128
-returns c = wrote-word c.before.before.before.before.before.before.requires.0.before c.before.before.write_each.ensures
+returns c = wrote-word c.requires.0.before c.write_each.ensures
 
 write-128-requires : tie.Need-write_128-requires
 write-128-requires c κs =
@@ -23,7 +23,7 @@ write-128-requires c κs =
 returns-2 : tie.Need-returns
 returns-2 c =
     let s = c.before.before.before.before.before.before in
-    wrote_as (wrote-word s.requires.0.before c.before.before.write_128.ensures) (omega arith) refl refl
+    wrote_as (wrote-word s.requires.0.before c.write_128.ensures) (omega arith) refl refl
 
 pub write_few_spec : {M : Type 1} → statement M
 write_few_spec =

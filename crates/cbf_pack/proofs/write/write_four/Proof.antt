@@ -28,41 +28,41 @@ state-0 : (s : tie.Start) → State s 0 s.args.out.now (of_z w64 s.args.last) s.
 state-0 s = upto-none (small_word s.args.last s.requires.before) refl
 
 state-1 : (c : tie.After-slice_known-2-1) → State c.before.before.before.before.before.before 1
-    c.before.before.put_difference-at1.new.0 (word_at c.before.before.before.before.before.before
-    c.before.before.before.before.before.before.args.k) c.before.before.put_difference-at1.result
+    c.put_difference-at1.new.out (word_at c.before.before.before.before.before.before
+    c.args.k) c.put_difference-at1.result
 state-1 c =
     let s = c.before.before.before.before.before.before in
-    upto-one s.requires (state-0 s) s.args.k (omega arith) (omega arith) c.before.before.put_difference-at1.ensures
+    upto-one s.requires (state-0 s) s.args.k (omega arith) (omega arith) c.put_difference-at1.ensures
 
 state-2 : (c : tie.After-slice_known-3-1)
     → State c.before.before.before.before.before.before.before.before.before.before.before 2
-    c.before.before.put_difference-at2.new.0
+    c.put_difference-at2.new.out
     (word_at c.before.before.before.before.before.before.before.before.before.before.before
-    (c.before.before.before.before.before.before.before.before.before.before.before.args.k + 1))
-    c.before.before.put_difference-at2.result
+    (c.args.k + 1))
+    c.put_difference-at2.result
 state-2 c =
     let s = c.before.before.before.before.before.before.before.before.before.before.before in
     upto-one s.requires (state-1 c.before.before.before.before.before) (s.args.k + 1) (omega arith)
-    (omega arith) c.before.before.put_difference-at2.ensures
+    (omega arith) c.put_difference-at2.ensures
 
 state-3 : (c : tie.After-slice_known-4-1)
-    → State c.before.before.before.before.before.before.before.before.before.before.before.before.before.before.before.before 3 c.before.before.put_difference-at3.new.0
+    → State c.before.before.before.before.before.before.before.before.before.before.before.before.before.before.before.before 3 c.put_difference-at3.new.out
     (word_at c.before.before.before.before.before.before.before.before.before.before.before.before.before.before.before.before
-    (c.before.before.before.before.before.before.before.before.before.before.before.before.before.before.before.before.args.k + 2)) c.before.before.put_difference-at3.result
+    (c.args.k + 2)) c.put_difference-at3.result
 state-3 c =
     let s = c.before.before.before.before.before.before.before.before.before.before.before.before.before.before.before.before in
     upto-one s.requires (state-2 c.before.before.before.before.before) (s.args.k + 2) (omega arith)
-    (omega arith) c.before.before.put_difference-at3.ensures
+    (omega arith) c.put_difference-at3.ensures
 
 state-4 : (c : tie.After-slice_known-5-1)
-    → State c.before.before.before.before.before.before.before.before.before.before.before.before.before.before.before.before.before.before.before.before.before 4 c.before.before.put_difference.new.0
+    → State c.before.before.before.before.before.before.before.before.before.before.before.before.before.before.before.before.before.before.before.before.before 4 c.put_difference.new.out
     (word_at c.before.before.before.before.before.before.before.before.before.before.before.before.before.before.before.before.before.before.before.before.before
-    (c.before.before.before.before.before.before.before.before.before.before.before.before.before.before.before.before.before.before.before.before.before.args.k + 3))
-    c.before.before.put_difference.result
+    (c.args.k + 3))
+    c.put_difference.result
 state-4 c =
     let s = c.before.before.before.before.before.before.before.before.before.before.before.before.before.before.before.before.before.before.before.before.before in
     upto-one s.requires (state-3 c.before.before.before.before.before) (s.args.k + 3) (omega arith)
-    (omega arith) c.before.before.put_difference.ensures
+    (omega arith) c.put_difference.ensures
 
 sub-put-difference : tie.Need-overflow_sub-z1
 sub-put-difference c =

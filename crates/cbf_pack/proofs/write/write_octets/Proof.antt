@@ -33,9 +33,9 @@ part-requires c κs = tt
 
 write-part-requires : tie.Need-write_part-next-requires invariant-loop decreases-loop
 write-part-requires c κs =
-    let l = c.before.before.before.before.before.before.loop-k in
+    let l = c.loop-k in
     let s = c.before.before.before.before.before.before.before.before in
-    let p = c.before.before.part-n in (
+    let p = c.part-n in (
       l.invariant.1,
       p.ensures.1,
       omega (arith, p.ensures.0),
@@ -43,21 +43,21 @@ write-part-requires c κs =
     )
 
 sub_used : tie.Need-overflow_sub-used invariant-loop decreases-loop
-sub_used c = omega (arith, c.before.before.write_part-next.ensures.wrote.after)
+sub_used c = omega (arith, c.write_part-next.ensures.wrote.after)
 
 -- a run that window_run found
-run : (c : tie.After-window_run-n invariant-loop decreases-loop) → InWindow c.before.before.before.before.args.pixels.now
-    c.before.before.loop-k.k (to_z w64 c.before.before.loop-k.last) c.window_run-n.result
+run : (c : tie.After-window_run-n invariant-loop decreases-loop) → InWindow c.args.pixels.now
+    c.loop-k.k (to_z w64 c.loop-k.last-bits) c.window_run-n.result
 run c =
-    let l = c.before.before.loop-k in
+    let l = c.loop-k in
     let w = along-writable (writable c.before.before.before.before) l.invariant.0 0 l.k (omega arith) (omega arith) in
     record { small = w.small; before = w.before; run = c.window_run-n.ensures }
 
-room : (c : tie.After-window_run-n invariant-loop decreases-loop) → Writable c.before.before.before.before.args.pixels.now
-    c.before.before.loop-k.k c.window_run-n.result (to_z w64 c.before.before.loop-k.last)
-    c.before.before.loop-k.out c.before.before.loop-k.at
+room : (c : tie.After-window_run-n invariant-loop decreases-loop) → Writable c.args.pixels.now
+    c.loop-k.k c.window_run-n.result (to_z w64 c.loop-k.last-bits)
+    c.loop-k.out c.loop-k.at
 room c =
-    let l = c.before.before.loop-k in
+    let l = c.loop-k in
     along-writable (writable c.before.before.before.before) l.invariant.0 c.window_run-n.result l.k (omega arith)
     (omega (arith, c.window_run-n.ensures.inside))
 
@@ -71,21 +71,21 @@ add_at c = omega (
   arith,
   window-room (run c.before.before.before.before.before) (room c.before.before.before.before.before),
   along-same
-      c.before.before.before.before.before.before.before.loop-k.invariant.0,
+      c.loop-k.invariant.0,
 )
 
 -- the part of a turn, where its two ways meet
 joined : (c : tie.Joined-n-eq0 invariant-loop decreases-loop)
     → (0 < c.if-n-eq0.n)
-    × (c.before.before.before.loop-k.k + c.if-n-eq0.n ≤ length c.before.before.before.before.before.args.pixels.now)
-    × (length c.before.before.before.loop-k.invariant.0.behind ≤ c.if-n-eq0.n)
-    × WroteOver c.before.before.before.before.before.args.pixels.now c.before.before.before.loop-k.k c.if-n-eq0.n
-    (to_z w64 c.before.before.before.loop-k.last) c.before.before.before.loop-k.out c.before.before.before.loop-k.at c.if-n-eq0.out
+    × (c.loop-k.k + c.if-n-eq0.n ≤ length c.args.pixels.now)
+    × (length c.loop-k.invariant.0.behind ≤ c.if-n-eq0.n)
+    × WroteOver c.args.pixels.now c.loop-k.k c.if-n-eq0.n
+    (to_z w64 c.loop-k.last-bits) c.loop-k.out c.loop-k.at c.if-n-eq0.out
     c.if-n-eq0.at
-    (length c.before.before.before.before.before.args.pixels.now - (c.before.before.before.loop-k.k + c.if-n-eq0.n))
+    (length c.args.pixels.now - (c.loop-k.k + c.if-n-eq0.n))
 joined c =
-    let a = c.before.before.before.loop-k.invariant.0 in
-    let t = c.before.before.loop-k-test.true in
+    let a = c.loop-k.invariant.0 in
+    let t = c.loop-k-test.true in
     ⊎_elim
     (λ w.
     let p = w.1.ensures in
@@ -102,10 +102,10 @@ joined c =
       omega (arith, r.run.inside),
       omega (arith, a.seven),
       over-as
-          (over_none (window-wrote r w.2.ensures refl) (length c.before.before.before.before.before.args.pixels.now -
-          (c.before.before.before.loop-k.k + c.if-n-eq0.n))) e w.5 w.6 (omega arith),
+          (over_none (window-wrote r w.2.ensures refl) (length c.args.pixels.now -
+          (c.loop-k.k + c.if-n-eq0.n))) e w.5 w.6 (omega arith),
     ))
-    c.if-n-eq0.branch
+    c.if-n-eq0.branch-raw
 
 add-k : tie.Need-overflow_add-k invariant-loop decreases-loop
 add-k c = omega (arith, (joined c.before).1)
@@ -125,18 +125,18 @@ loop-less c = omega (arith, (joined c.before.before).0)
 loop-again : tie.Need-loop-k-preserved invariant-loop decreases-loop
 loop-again c =
     let s = c.before.before.before.before.before.before.before in
-    let l = c.before.before.before.before.before.loop-k in
-    let i = c.before.before.if-n-eq0 in
+    let l = c.loop-k in
+    let i = c.if-n-eq0 in
     let j = joined c.before.before in
     let h = j.1 in
     let p = j.0 in
     (along-more (writable s) l.invariant.0 i.n l.k (omega arith) (omega arith) j.2 (l.k + i.n - 1) (omega arith) p j.3, l.invariant.1)
 
 same_length : tie.Need-shape_of-out invariant-loop decreases-loop
-same_length c = along-same c.before.loop-k.invariant.0
+same_length c = along-same c.loop-k.invariant.0
 
 returns : tie.Need-returns invariant-loop decreases-loop
-returns c = let l = c.before.loop-k in all-wrote (along-end l.invariant.0 (omega arith))
+returns c = let l = c.loop-k in all-wrote (along-end l.invariant.0 (omega arith))
 
 pub write_octets_spec : {M : Type 1} → statement M
 write_octets_spec =

@@ -11,14 +11,14 @@ use Rattle.cbf_pack.proofs.write.write_part.Tie as tie
 write-dense-requires : tie.Need-write_dense-requires
 write-dense-requires c κs =
     let s = c.before.before.before.before in
-    let l = c.before.before.dense.ensures c.before.if-dense.true in
+    let l = c.dense.ensures c.if-dense.true in
     (s.requires.0, writable-word (writable-few s.requires.3 (s.args.n + 7) (omega arith)))
 
 returns : tie.Need-returns-then-dense
 returns c =
     let s = c.before.before.before.before.before.before.before in
-    let l = c.before.before.before.before.before.dense.ensures c.before.before.before.before.if-dense.true in
-    over_word s.requires.3.before (over-limit c.before.before.write_dense.ensures (length s.args.pixels.now - (s.args.k + s.args.n))
+    let l = c.dense.ensures c.if-dense.true in
+    over_word s.requires.3.before (over-limit c.write_dense.ensures (length s.args.pixels.now - (s.args.k + s.args.n))
     (omega arith))
 
 write-few-requires : tie.Need-write_few-requires
@@ -29,7 +29,7 @@ write-few-requires c κs =
 returns-2 : tie.Need-returns
 returns-2 c =
     let s = c.before.before.before.before.before.before.before in
-    over_none (wrote-word s.requires.3.before c.before.before.write_few.ensures) (length s.args.pixels.now - (s.args.k + s.args.n))
+    over_none (wrote-word s.requires.3.before c.write_few.ensures) (length s.args.pixels.now - (s.args.k + s.args.n))
 
 pub write_part_spec : {M : Type 1} → statement M
 write_part_spec =

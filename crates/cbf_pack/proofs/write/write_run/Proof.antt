@@ -29,30 +29,30 @@ writable : (s : tie.Start invariant-loop decreases-loop) → Writable s.args.pix
 writable s = window-writable (in_window s) s.args.out.now s.args.at s.requires.3
 
 add-write-block : tie.Need-overflow_add-k invariant-loop decreases-loop
-add-write-block c = omega (arith, c.before.before.before.requires.1.inside)
+add-write-block c = omega (arith, c.requires.1.inside)
 
 add-write-block-2 : tie.Need-overflow_add-at invariant-loop decreases-loop
-add-write-block-2 c = omega (arith, c.before.before.before.before.requires.3)
+add-write-block-2 c = omega (arith, c.requires.3)
 
 block : (c : tie.After-write_block-arg-1 invariant-loop decreases-loop)
-    → InWindow c.before.before.before.before.args.pixels.now (c.before.before.before.before.args.k +
-    c.before.before.loop-j.j) (to_z w64 c.before.before.loop-j.before) 32
+    → InWindow c.args.pixels.now (c.args.k +
+    c.loop-j.j) (to_z w64 c.loop-j.before-bits) 32
 block c =
-    upto-window (in_window c.before.before.before.before) c.before.before.loop-j.invariant.0 32
-    (omega (arith, c.before.before.before.before.requires.1.blocks)) (omega arith)
+    upto-window (in_window c.before.before.before.before) c.loop-j.invariant.0 32
+    (omega (arith, c.requires.1.blocks)) (omega arith)
 
 write-block-requires : tie.Need-write_block-requires invariant-loop decreases-loop
 write-block-requires c κs =
     let b = block c in
-    let l = c.before.before.loop-j in (
+    let l = c.loop-j in (
       b.small,
       b.run,
       b.before,
-      omega (arith, c.before.before.before.before.requires.1.blocks, c.before.before.before.before.requires.3, wrote-length l.invariant.0.wrote),
+      omega (arith, c.requires.1.blocks, c.requires.3, wrote-length l.invariant.0.wrote),
     )
 
 add-before : tie.Need-overflow_add-before invariant-loop decreases-loop
-add-before c = omega (arith, c.before.before.before.before.before.before.before.requires.1.inside)
+add-before c = omega (arith, c.requires.1.inside)
 
 add-before-2 : tie.Need-overflow_add-before-in-loop-j invariant-loop decreases-loop
 add-before-2 c = omega (arith, (block c.before.before.before).run.inside)
@@ -69,17 +69,17 @@ add-j c = omega (arith, (block c.before.before.before.before).run.inside)
 loop-again : tie.Need-loop-j-preserved invariant-loop decreases-loop
 loop-again c =
     let s = c.before.before.before.before.before.before.before.before in
-    let l = c.before.before.before.before.before.before.loop-j in (
+    let l = c.loop-j in (
       upto-more (writable s) l.invariant.0 32 _ refl (omega (arith, s.requires.1.blocks)) (s.args.k + l.j + 31) (omega arith) (omega arith)
-          (window-wrote (block c.before.before.before.before) c.before.before.before.write_block.ensures (omega arith)),
+          (window-wrote (block c.before.before.before.before) c.write_block.ensures (omega arith)),
       omega arith,
     )
 
 same_length : tie.Need-shape_of-out invariant-loop decreases-loop
-same_length c = wrote-length c.before.loop-j.invariant.0.wrote
+same_length c = wrote-length c.loop-j.invariant.0.wrote
 
 returns : tie.Need-returns invariant-loop decreases-loop
-returns c = (upto_all c.before.loop-j.invariant.0 c.before.before.before.requires.2 (omega arith)).octets
+returns c = (upto_all c.loop-j.invariant.0 c.requires.2 (omega arith)).octets
 
 pub write_run_spec : {M : Type 1} → statement M
 write_run_spec =

@@ -12,32 +12,31 @@ use Rattle.cbf_reader.proofs.data.base64_data.Tie as tie
 pub base64_data_spec : {M : Type 1} → statement M
 base64_data_spec =
     -- the text is closed; where it ends; what follows from the line after it
-    let text : (c : tie.In-Closed-2) → _ = λ c. sym c.t-in-Closed-1.given.1 ∙ c.before.before.base64_text-t.ensures.0 in
-    let bounds : (c : tie.In-Closed-2) → _ = λ c. let s = c.before.before.before.before in let a = s.args in
+    let text : (c : tie.In-Closed) → _ = λ c. sym c.in-Closed.is ∙ c.base64_text-t.ensures.0 in
+    let bounds : (c : tie.In-Closed) → _ = λ c. let s = c.before.before.before.before in let a = s.args in
     base64-bounds a.file.now a.limit a.size a.at (text c) s.requires.0 in
     let closes : (c : tie.After-semicolon_line-end) (r : Next) (e : c.semicolon_line-end.result ≡ r) → _ = λ c r e. let a =
-    c.before.before.before.before.before.before.before.before.args in base64-closed a.file.now
+    c.args in base64-closed a.file.now
     a.limit a.size a.at (text c.before.before.before.before)
-    (sym c.before.before.groups_hold.ensures ∙ not-false c.before.before.groups_hold.result
-    c.before.if-not-groups_hold.false) r (sym e ∙ c.semicolon_line-end.ensures) in
+    (sym c.groups_hold.ensures ∙ c.if-not-groups_hold.false) r (sym e ∙ c.semicolon_line-end.ensures) in
     tie.close
     (tie.spec
     (λ c κs. search rules)
     (λ c. search rules)
     (λ c. search rules)
     (λ c. search rules)
-    (λ c κs. few-closed c.before.t-in-Closed-1.given.1 c.before.before.before.base64_text-t.ensures.1)
-    (λ c. let a = c.before.before.before.before.before.before.before.args in base64-wrong a.file.now
-    a.limit a.size a.at (text c.before.before.before) (sym c.before.groups_hold.ensures
-    ∙ not-true c.before.groups_hold.result c.if-not-groups_hold.true))
+    (λ c κs. few-closed c.in-Closed.is c.base64_text-t.ensures.1)
+    (λ c. let a = c.args in base64-wrong a.file.now
+    a.limit a.size a.at (text c.before.before.before) (sym c.groups_hold.ensures
+    ∙ c.if-not-groups_hold.true))
     (λ c κs. (bounds c.before.before.before).1)
     (λ c. search rules)
     (λ c. search rules)
     (λ c. let b = bounds c.before.before.before.before.before.before.before in omega
-    (arith, c.before.before.before.before.before.before.before.before.before.before.before.requires.1))
-    (λ c. let a = c.before.before.before.before.before.args in base64-refused a.file.now a.limit
-    a.size a.at (sym c.before.t-1.given.1 ∙ c.before.before.before.base64_text-t.ensures.0))
-    (λ c. let a = c.before.before.before.before.args in base64-cut a.file.now a.limit a.size a.at
-    (sym c.enum_told-1.given.1 ∙ c.before.before.base64_text-t.ensures.0))
-    (λ c. closes c.before.before _ c.enum_told-in-Missing-1.given.1)
-    (λ c. closes c.before.before.before _ c.before.end-1.given.1))
+    (arith, c.requires.1))
+    (λ c. let a = c.args in base64-refused a.file.now a.limit
+    a.size a.at (sym c.in-Refused.is ∙ c.base64_text-t.ensures.0))
+    (λ c. let a = c.args in base64-cut a.file.now a.limit a.size a.at
+    (sym c.in-CutOff.is ∙ c.base64_text-t.ensures.0))
+    (λ c. closes c.before.before _ c.in-Missing.is)
+    (λ c. closes c.before.before.before _ c.in-At.is))

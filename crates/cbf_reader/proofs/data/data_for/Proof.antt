@@ -8,15 +8,15 @@ use Rattle.cbf_reader.proofs.data.data_for.Tie as tie
 
 returns : tie.Need-returns-then-is_text
 returns c =
-    let a = c.before.before.before.before.args in
-    by-text a.limit a.size a.at (drop a.at a.file.now) a.encoding (sym c.before.if-is_text.true
-    ∙ c.before.before.is_text.ensures) c.base64_data.ensures
+    let a = c.args in
+    by-text a.limit a.size a.at (drop a.at a.file.now) a.encoding (sym c.if-is_text.true
+    ∙ c.is_text.ensures) c.base64_data.ensures
 
 returns-2 : tie.Need-returns
 returns-2 c =
-    let a = c.before.before.before.before.args in
-    by-text a.limit a.size a.at (drop a.at a.file.now) a.encoding (sym c.before.if-is_text.false
-    ∙ c.before.before.is_text.ensures) c.binary_data.ensures
+    let a = c.args in
+    by-text a.limit a.size a.at (drop a.at a.file.now) a.encoding (sym c.if-is_text.false
+    ∙ c.is_text.ensures) c.binary_data.ensures
 
 pub data_for_spec : {M : Type 1} → statement M
 data_for_spec =

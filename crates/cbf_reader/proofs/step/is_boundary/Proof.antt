@@ -10,14 +10,13 @@ use Rattle.cbf_reader.proofs.step.is_boundary.Tie as tie
 
 returns : tie.Need-returns-in-Opened
 returns c f e =
-    let a = c.before.before.before.before.before.before.args in
-    let v = c.before.before.before.field-1.given in
+    let a = c.args in
     let s = same (slice a.at a.to a.file.now) opening in
-    c.is_word.ensures ∙ ap (λ (b : Bool). b && s) (is_opened a.at v.0.0 f (sym v.1 ∙ e))
+    c.is_word.ensures ∙ ap (λ (b : Bool). b && s) (is_opened a.at c.in-Opened.p f (sym c.in-Opened.is ∙ e))
 
 returns-2 : tie.Need-returns-in_default
 returns-2 c f e =
-    let a = c.before.before.args in
+    let a = c.args in
     let s = same (slice a.at a.to a.file.now) opening in
     ap (λ (b : Bool). b && s) (not_opened a.at a.field c.in_default.keys2 f e)
 

@@ -8,17 +8,17 @@ use Rattle.cbf_reader.proofs.step.line_step.Tie as tie
 
 returns : tie.Need-returns
 returns c st n e k =
-    let a = c.before.before.before.before.args in
-    let pre = c.before.before.before.before.requires in
+    let a = c.args in
+    let pre = c.requires in
     let file = a.file.now in
-    let b : BlockAfter file a.c.at a.to a.c.field a.c.block c.before.match-field.block
+    let b : BlockAfter file a.c.at a.to a.c.field a.c.block c.match-field.block
     = ⊎_elim
     (λ h. subst (λ (r : Range). BlockAfter file a.c.at a.to a.c.field a.c.block r) (sym h.3)
     (block-outside file a.c.at a.to a.c.block a.c.field h.1.given.1 h.2.result h.2.ensures))
     (λ h. subst (λ (r : Range). BlockAfter file a.c.at a.to a.c.field a.c.block r) (sym h.1)
     (block-kept file a.c.at a.to a.c.block a.c.field h.0.keys2 pre.2 pre.3))
-    c.before.match-field.branch in
-    (after_line_lem file a.c a.to a.next c.before.match-field.block c.next_field.result b c.next_field.ensures st n e k, refl, b.low, b.high)
+    c.match-field.branch-raw in
+    (after_line_lem file a.c a.to a.next c.match-field.block c.next_field.result b c.next_field.ensures st n e k, refl, b.low, b.high)
 
 pub line_step_spec : {M : Type 1} → statement M
 line_step_spec =

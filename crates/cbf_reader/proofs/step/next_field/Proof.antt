@@ -16,61 +16,61 @@ rest at to file = ap blanks (drop-drop 1 at (take to file))
 
 returns : tie.Need-returns-then-not-starts
 returns c f n b e =
-    let a = c.before.before.before.before.before.args in
-    follows a.at n f b (slice a.at a.to a.file.now) (sym c.before.enum_told-in-Outside-1.given.1 ∙ e)
-    (sym (not-true _ c.if-not-starts.true) ∙ c.before.before.before.starts_field-starts.ensures) refl
+    let a = c.args in
+    follows a.at n f b (slice a.at a.to a.file.now) (sym c.in-Outside.is ∙ e)
+    (sym (c.if-not-starts.true) ∙ c.starts_field-starts.ensures) refl
 
 is-blank-text-requires : tie.Need-is_blank_text-requires
 is-blank-text-requires c κs =
-    let a = c.before.before.before.before.before.args in
-    let pre = c.before.before.before.before.before.requires in
-    let h = starts-some a.at a.to a.file.now pre.0 (sym (not-false _ c.if-not-starts.false) ∙ c.before.before.before.starts_field-starts.ensures) in
+    let a = c.args in
+    let pre = c.requires in
+    let h = starts-some a.at a.to a.file.now pre.0 (sym (c.if-not-starts.false) ∙ c.starts_field-starts.ensures) in
     (omega arith, omega arith)
 
 returns-2 : tie.Need-returns-then-is_blank_text
 returns-2 c f n b e =
-    let a = c.before.before.before.before.before.before.before.args in
+    let a = c.args in
     follows a.at n f b (slice a.at a.to a.file.now)
-    (sym c.before.before.before.enum_told-in-Outside-1.given.1 ∙ e) (sym (not-false _ c.before.before.if-not-starts.false)
-    ∙ c.before.before.before.before.before.starts_field-starts.ensures) (sym c.if-is_blank_text.true
-    ∙ c.before.is_blank_text.ensures ∙ sym (rest a.at a.to a.file.now))
+    (sym c.in-Outside.is ∙ e) (sym (c.if-not-starts.false)
+    ∙ c.starts_field-starts.ensures) (sym c.if-is_blank_text.true
+    ∙ c.is_blank_text.ensures ∙ sym (rest a.at a.to a.file.now))
 
 returns-3 : tie.Need-returns-then-starts
 returns-3 c f n b e =
-    let a = c.before.before.before.before.before.before.args in
-    follows a.at n f b (slice a.at a.to a.file.now) (sym c.before.before.field-1.given.1 ∙ e)
-    (sym c.if-starts.true ∙ c.before.before.before.before.starts_field-starts.ensures) refl
+    let a = c.args in
+    follows a.at n f b (slice a.at a.to a.file.now) (sym c.in-Opened.is ∙ e)
+    (sym c.if-starts.true ∙ c.starts_field-starts.ensures) refl
 
 returns-4 : tie.Need-returns-then-starts-2
 returns-4 c f n b e =
-    let a = c.before.before.before.before.before.before.args in
-    follows a.at n f b (slice a.at a.to a.file.now) (sym c.before.before.field-in-Inside-1.given.1 ∙ e)
-    (sym c.if-starts-2.true ∙ c.before.before.before.before.starts_field-starts.ensures) refl
+    let a = c.args in
+    follows a.at n f b (slice a.at a.to a.file.now) (sym c.in-Inside.is ∙ e)
+    (sym c.if-starts-2.true ∙ c.starts_field-starts.ensures) refl
 
 returns-5 : tie.Need-returns-in-First
 returns-5 c f n b e =
-    let a = c.before.before.before.before.args in
-    follows a.at n f b (slice a.at a.to a.file.now) (sym c.enum_told-1.given.1 ∙ e) c.before.before.starts_field-starts.ensures refl
+    let a = c.args in
+    follows a.at n f b (slice a.at a.to a.file.now) (sym c.in-First.is ∙ e) c.starts_field-starts.ensures refl
 
 returns-6 : tie.Need-returns-else-is_blank_text
 returns-6 c f n b e =
-    let a = c.before.before.before.before.before.before.before.args in
+    let a = c.args in
     follows a.at n f b (slice a.at a.to a.file.now)
-    (sym c.before.before.before.enum_told-in-Outside-1.given.1 ∙ e) (sym (not-false _ c.before.before.if-not-starts.false)
-    ∙ c.before.before.before.before.before.starts_field-starts.ensures) (sym c.if-is_blank_text.false
-    ∙ c.before.is_blank_text.ensures ∙ sym (rest a.at a.to a.file.now))
+    (sym c.in-Outside.is ∙ e) (sym (c.if-not-starts.false)
+    ∙ c.starts_field-starts.ensures) (sym c.if-is_blank_text.false
+    ∙ c.is_blank_text.ensures ∙ sym (rest a.at a.to a.file.now))
 
 returns-7 : tie.Need-returns-else-starts
 returns-7 c f n b e =
-    let a = c.before.before.before.before.before.before.args in
-    follows a.at n f b (slice a.at a.to a.file.now) (sym c.before.before.field-1.given.1 ∙ e)
-    (sym c.if-starts.false ∙ c.before.before.before.before.starts_field-starts.ensures) refl
+    let a = c.args in
+    follows a.at n f b (slice a.at a.to a.file.now) (sym c.in-Opened.is ∙ e)
+    (sym c.if-starts.false ∙ c.starts_field-starts.ensures) refl
 
 returns-8 : tie.Need-returns-else-starts-2
 returns-8 c f n b e =
-    let a = c.before.before.before.before.before.before.args in
-    follows a.at n f b (slice a.at a.to a.file.now) (sym c.before.before.field-in-Inside-1.given.1 ∙ e)
-    (sym c.if-starts-2.false ∙ c.before.before.before.before.starts_field-starts.ensures) refl
+    let a = c.args in
+    follows a.at n f b (slice a.at a.to a.file.now) (sym c.in-Inside.is ∙ e)
+    (sym c.if-starts-2.false ∙ c.starts_field-starts.ensures) refl
 
 pub next_field_spec : {M : Type 1} → statement M
 next_field_spec =

@@ -8,14 +8,14 @@ use Rattle.cbf_reader.proofs.step.starts_field.Tie as tie
 
 returns : tie.Need-returns-then-at-to
 returns c =
-    let a = c.before.args in
+    let a = c.args in
     let file = a.file.now in
     let e = c.if-at-to.true in
     sym (ap (λ (k : ℕ). starts_field (slice k a.to file)) e ∙ ap starts_field (slice_empty a.to file))
 
 returns-2 : tie.Need-returns
 returns-2 c =
-    let a = c.before.before.args in
+    let a = c.args in
     let file = a.file.now in
     sym (ap starts_field (slice-cons a.at a.to file 0 (omega arith) (omega arith)))
 

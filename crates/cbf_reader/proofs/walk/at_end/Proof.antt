@@ -5,10 +5,10 @@ use Rattle.cbf_reader.proofs.walk.at_end.Statement.{statement}
 use Rattle.cbf_reader.proofs.walk.at_end.Tie as tie
 
 returns-3 : tie.Need-returns-in-Opened
-returns-3 c = ap end_of (sym c.before.field-1.given.1)
+returns-3 c = ap end_of (sym c.in-Opened.is)
 
 returns-4 : tie.Need-returns-in-Inside
-returns-4 c = ap end_of (sym c.before.field-in-Inside-1.given.1)
+returns-4 c = ap end_of (sym c.in-Inside.is)
 
 pub at_end_spec : {M : Type 1} → statement M
 at_end_spec =

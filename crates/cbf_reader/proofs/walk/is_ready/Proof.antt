@@ -22,15 +22,15 @@ returns-5 c = (never, λ ready. absurd (omega (arith, ready.block_high, c.if-fil
 
 returns-6 : tie.Need-returns
 returns-6 c =
-    let a = c.before.before.before.before.before.before.before.before.before.before.before.before.args in
+    let a = c.args in
     let field = a.c.field in
     let at = a.c.at in (
       λ e. record {
-        short = omega (arith, c.before.before.before.before.before.before.before.before.before.if-file-gt-FILE_LIMIT.false);
-        at_in = omega (arith, c.before.before.before.before.before.before.before.if-file-c.false);
-        few = omega (arith, c.before.before.before.before.before.if-c-gt512.false);
-        block_low = omega (arith, c.before.before.before.if-block.false);
-        block_high = omega (arith, c.before.if-file-block.false);
+        short = omega (arith, c.if-file-gt-FILE_LIMIT.false);
+        at_in = omega (arith, c.if-file-c.false);
+        few = omega (arith, c.if-c-gt512.false);
+        block_low = omega (arith, c.if-block.false);
+        block_high = omega (arith, c.if-file-block.false);
         stands = field_back field at (c.field_is_ready.ensures.0 e);
       },
       λ ready. c.field_is_ready.ensures.1 (back_field field at ready.stands.0 ready.stands.1.0 ready.stands.1.1),

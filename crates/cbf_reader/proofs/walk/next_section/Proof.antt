@@ -6,10 +6,10 @@ use Rattle.cbf_reader.proofs.walk.next_section.Statement.{statement}
 use Rattle.cbf_reader.proofs.walk.next_section.Tie as tie
 
 returns : tie.Need-returns-then-not-is_ready
-returns c = λ done come. never (sym (not-true _ c.if-not-is_ready.true) ∙ c.before.is_ready.ensures.1 come.ready)
+returns c = λ done come. never (sym (c.if-not-is_ready.true) ∙ c.is_ready.ensures.1 come.ready)
 
 section-from-requires : tie.Need-section_from-requires
-section-from-requires c κs = c.before.is_ready.ensures.0 (not-false _ c.if-not-is_ready.false)
+section-from-requires c κs = c.is_ready.ensures.0 (c.if-not-is_ready.false)
 
 pub next_section_spec : {M : Type 1} → statement M
 next_section_spec =

@@ -19,60 +19,60 @@ abbrev decreases-loop : tie.decreases-loop-cursor
 decreases-loop file limit cursor₀ cursor = length file - cursor.at
 
 loop-holds : tie.Need-loop-cursor-init invariant-loop decreases-loop
-loop-holds c = let a = c.before.args in (c.before.requires, walked_start a.limit a.file.now a.c c.before.requires)
+loop-holds c = let a = c.args in (c.requires, walked_start a.limit a.file.now a.c c.requires)
 
 step-requires : tie.Need-step-s-requires invariant-loop decreases-loop
-step-requires c κs = c.before.before.loop-cursor.invariant.0
+step-requires c κs = c.loop-cursor.invariant.0
 
 returns : tie.Need-returns-in-Refused invariant-loop decreases-loop
 returns c done k =
-    let a = c.before.before.before.before.before.before.before.before.args in
-    let l = c.before.before.before.before.before.before.loop-cursor in
-    let t = c.before.before.before.step-s in
+    let a = c.args in
+    let l = c.loop-cursor in
+    let t = c.step-s in
     let w = l.invariant.1 done k in
-    gave a.limit a.file.now l.cursor l.invariant.0 c.before.before.before.before.loop-cursor-test.true
-    t.ensures c.before.s-1.given.1 (done ++ w.0) w.2
+    gave a.limit a.file.now l.cursor l.invariant.0 c.loop-cursor-test.true
+    t.ensures c.in-Refused.is (done ++ w.0) w.2
 
 returns-2 : tie.Need-returns-in-CutOff invariant-loop decreases-loop
 returns-2 c done k =
-    let a = c.before.before.before.before.before.before.before.before.args in
-    let l = c.before.before.before.before.before.before.loop-cursor in
-    let t = c.before.before.before.step-s in
+    let a = c.args in
+    let l = c.loop-cursor in
+    let t = c.step-s in
     let w = l.invariant.1 done k in
-    gave a.limit a.file.now l.cursor l.invariant.0 c.before.before.before.before.loop-cursor-test.true
-    t.ensures c.before.enum_told-1.given.1 (done ++ w.0) w.2
+    gave a.limit a.file.now l.cursor l.invariant.0 c.loop-cursor-test.true
+    t.ensures c.in-CutOff.is (done ++ w.0) w.2
     ∙ ap (refused 11) (sym c.open_place-place.ensures)
 
 loop-less : tie.Need-loop-cursor-smaller invariant-loop decreases-loop
 loop-less c =
-    let a = c.before.before.before.before.before.before.before.before.args in
-    let l = c.before.before.before.before.before.before.loop-cursor in
-    let t = c.before.before.before.step-s in
-    let m = goes_on a.limit a.file.now l.cursor l.invariant.0 c.before.before.before.before.loop-cursor-test.true t.ensures c.before.s-in-Line-1.given.1 in
+    let a = c.args in
+    let l = c.loop-cursor in
+    let t = c.step-s in
+    let m = goes_on a.limit a.file.now l.cursor l.invariant.0 c.loop-cursor-test.true t.ensures c.in-Line.is in
     let n = m.1 in
-    let h = c.before.before.before.before.loop-cursor-test.true in
+    let h = c.loop-cursor-test.true in
     omega arith
 
 loop-again : tie.Need-loop-cursor-preserved invariant-loop decreases-loop
 loop-again c =
-    let a = c.before.before.before.before.before.before.before.before.args in
-    let l = c.before.before.before.before.before.before.loop-cursor in
-    let t = c.before.before.before.step-s in
-    let m = goes_on a.limit a.file.now l.cursor l.invariant.0 c.before.before.before.before.loop-cursor-test.true
-    t.ensures c.before.s-in-Line-1.given.1 in (
+    let a = c.args in
+    let l = c.loop-cursor in
+    let t = c.step-s in
+    let m = goes_on a.limit a.file.now l.cursor l.invariant.0 c.loop-cursor-test.true
+    t.ensures c.in-Line.is in (
       m.0,
-      walked_line a.limit a.file.now l.cursor l.invariant.0 a.c c.before.s-in-Line-1.given.0.0 l.invariant.1
-          (gave a.limit a.file.now l.cursor l.invariant.0 c.before.before.before.before.loop-cursor-test.true t.ensures c.before.s-in-Line-1.given.1),
+      walked_line a.limit a.file.now l.cursor l.invariant.0 a.c c.in-Line.d l.invariant.1
+          (gave a.limit a.file.now l.cursor l.invariant.0 c.loop-cursor-test.true t.ensures c.in-Line.is),
     )
 
 returns-3 : tie.Need-returns-in-Section invariant-loop decreases-loop
 returns-3 c done k =
-    let a = c.before.before.before.before.before.before.before.before.args in
-    let l = c.before.before.before.before.before.before.loop-cursor in
-    let t = c.before.before.before.step-s in
+    let a = c.args in
+    let l = c.loop-cursor in
+    let t = c.step-s in
     let w = l.invariant.1 done k in
-    let g = gave a.limit a.file.now l.cursor l.invariant.0 c.before.before.before.before.loop-cursor-test.true
-    t.ensures c.before.s-in-Section-1.given.1 (done ++ w.0) w.2 in (
+    let g = gave a.limit a.file.now l.cursor l.invariant.0 c.loop-cursor-test.true
+    t.ensures c.in-Section.is (done ++ w.0) w.2 in (
       w.0,
       g.0,
       g.1,
@@ -81,16 +81,16 @@ returns-3 c done k =
       g.3,
       g.4,
       omega (arith, g.5, flat-more done w.0),
-      subst (λ (z : F.Tree). ReadTo a.limit a.file.now z c.before.s-in-Section-1.given.0.1.0) (append_assoc done w.0 (g.0 ∷ [])) g.6,
+      subst (λ (z : F.Tree). ReadTo a.limit a.file.now z c.in-Section.d) (append_assoc done w.0 (g.0 ∷ [])) g.6,
     )
 
 returns-4 : tie.Need-returns invariant-loop decreases-loop
 returns-4 c done k =
-    let a = c.before.before.before.before.before.args in
-    let l = c.before.before.before.loop-cursor in
+    let a = c.args in
+    let l = c.loop-cursor in
     let w = l.invariant.1 done k in
     subst (NextSays a.limit a.file.now done) (sym c.at_end.ensures)
-    (walk_end a.limit a.file.now l.cursor l.invariant.0 c.before.loop-cursor-test.false done w.0 w.1 w.2)
+    (walk_end a.limit a.file.now l.cursor l.invariant.0 c.loop-cursor-test.false done w.0 w.1 w.2)
 
 pub section_from_spec : {M : Type 1} → statement M
 section_from_spec =

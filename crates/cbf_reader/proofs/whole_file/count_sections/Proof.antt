@@ -6,15 +6,15 @@ use Rattle.cbf_reader.proofs.whole_file.count_sections.Tie as tie
 
 returns : tie.Need-returns-in-Refused
 returns c =
-    let a = c.before.before.before.before.before.args in
+    let a = c.args in
     whole_file-count a.limit a.file.now 0 (F.read a.limit a.file.now)
-    c.before.s-1.given.1 c.before.before.before.read_file-s.ensures
+    c.in-Refused.is c.read_file-s.ensures
 
 returns-2 : tie.Need-returns-in-Accepted
 returns-2 c =
-    let a = c.before.before.before.before.before.args in
+    let a = c.args in
     whole_file-count a.limit a.file.now 0 (F.read a.limit a.file.now)
-    c.before.s-in-Accepted-1.given.1 c.before.before.before.read_file-s.ensures
+    c.in-Accepted.is c.read_file-s.ensures
 
 pub count_sections_spec : {M : Type 1} → statement M
 count_sections_spec =

@@ -15,39 +15,39 @@ decreases-loop file limit number cursor₀ requested₀ cursor requested = lengt
 
 loop-holds : tie.Need-loop-cursor-init invariant-loop decreases-loop
 loop-holds c =
-    let a = c.before.args in
-    let p = c.before.requires in
+    let a = c.args in
+    let p = c.requires in
     surveyed-start a.limit a.file.now a.number a.c p.0 p.2
 
 returns : tie.Need-returns-in-Refused invariant-loop decreases-loop
-returns c = surveyed-refused c.before.before.before.before.before.before.loop-cursor.invariant
-    c.before.before.before.next_section-next.ensures c.before.next-1.given.1
+returns c = surveyed-refused c.loop-cursor.invariant
+    c.next_section-next.ensures c.in-Refused.is
 
 returns-2 : tie.Need-returns-in-End invariant-loop decreases-loop
-returns-2 c = surveyed-end c.before.before.before.before.before.loop-cursor.invariant c.before.before.next_section-next.ensures c.enum_told-1.given.1
+returns-2 c = surveyed-end c.loop-cursor.invariant c.next_section-next.ensures c.in-End.is
 
 loop-less : tie.Need-loop-cursor-smaller-then-d-number invariant-loop decreases-loop
-loop-less c = loop-onward c.before.before.before.before.before.before.before.before.loop-cursor.invariant.here
-    c.before.before.before.before.before.next_section-next.ensures c.before.before.before.next-in-Found-1.given.1
-    c.before.before.before.before.before.before.loop-cursor-test.true
+loop-less c = loop-onward c.loop-cursor.invariant.here
+    c.next_section-next.ensures c.in-Found.is
+    c.loop-cursor-test.true
 
 loop-again : tie.Need-loop-cursor-preserved-then-d-number invariant-loop decreases-loop
-loop-again c = surveyed-here c.before.before.before.before.before.before.before.before.loop-cursor.invariant
-    c.before.before.before.before.before.next_section-next.ensures c.before.before.before.next-in-Found-1.given.1
+loop-again c = surveyed-here c.loop-cursor.invariant
+    c.next_section-next.ensures c.in-Found.is
     c.if-d-number.true
 
 loop-less-2 : tie.Need-loop-cursor-smaller invariant-loop decreases-loop
-loop-less-2 c = loop-onward c.before.before.before.before.before.before.before.before.loop-cursor.invariant.here
-    c.before.before.before.before.before.next_section-next.ensures c.before.before.before.next-in-Found-1.given.1
-    c.before.before.before.before.before.before.loop-cursor-test.true
+loop-less-2 c = loop-onward c.loop-cursor.invariant.here
+    c.next_section-next.ensures c.in-Found.is
+    c.loop-cursor-test.true
 
 loop-again-2 : tie.Need-loop-cursor-preserved invariant-loop decreases-loop
-loop-again-2 c = surveyed-other c.before.before.before.before.before.before.before.before.loop-cursor.invariant
-    c.before.before.before.before.before.next_section-next.ensures c.before.before.before.next-in-Found-1.given.1
+loop-again-2 c = surveyed-other c.loop-cursor.invariant
+    c.next_section-next.ensures c.in-Found.is
     c.if-d-number.false
 
 returns-3 : tie.Need-returns invariant-loop decreases-loop
-returns-3 c = surveyed-past c.before.before.loop-cursor.invariant c.before.before.before.before.requires.1 c.loop-cursor-test.false
+returns-3 c = surveyed-past c.loop-cursor.invariant c.requires.1 c.loop-cursor-test.false
 
 pub read_from_spec : {M : Type 1} → statement M
 read_from_spec =

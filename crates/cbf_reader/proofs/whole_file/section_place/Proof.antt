@@ -8,24 +8,24 @@ use Rattle.cbf_reader.proofs.whole_file.section_place.Tie as tie
 
 returns : tie.Need-returns-in-Refused
 returns c =
-    let a = c.before.before.before.before.before.args in
+    let a = c.args in
     whole_file-place a.limit a.file.now a.number (F.read a.limit a.file.now)
-    c.before.s-1.given.1 c.before.before.before.read_file-s.ensures
+    c.in-Refused.is c.read_file-s.ensures
 
 returns-2 : tie.Need-returns-in-Missing
 returns-2 c =
-    let a = c.before.before.before.before.before.before.before.args in
+    let a = c.args in
     whole_file-place a.limit a.file.now a.number (F.read a.limit a.file.now)
-    (c.before.before.before.s-in-Accepted-1.given.1 ∙ ap (Accepted c.before.before.before.s-in-Accepted-1.given.0.0)
-    c.enum_told-1.given.1) c.before.before.before.before.before.read_file-s.ensures
+    (c.in-Accepted.is ∙ ap (Accepted c.in-Accepted.n)
+    c.in-Missing.is) c.read_file-s.ensures
 
 returns-3 : tie.Need-returns-in-Found
 returns-3 c =
-    let a = c.before.before.before.before.before.before.before.before.args in
+    let a = c.args in
     whole_file-place a.limit a.file.now a.number (F.read a.limit a.file.now)
-    (c.before.before.before.before.s-in-Accepted-1.given.1
-    ∙ ap (Accepted c.before.before.before.before.s-in-Accepted-1.given.0.0) c.before.requested-1.given.1)
-    c.before.before.before.before.before.before.read_file-s.ensures
+    (c.in-Accepted.is
+    ∙ ap (Accepted c.in-Accepted.n) c.in-Found.is)
+    c.read_file-s.ensures
 
 pub section_place_spec : {M : Type 1} → statement M
 section_place_spec =

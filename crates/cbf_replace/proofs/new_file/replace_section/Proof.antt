@@ -19,7 +19,7 @@ returns : tie.Need-returns-then-frame-d
 returns c =
     let s = c.before.before.before.before in
     let a = s.args in
-    let r = wrong-count a.d a.frame.now (new s) a.out.now c.before.if-frame-d.true in
+    let r = wrong-count a.d a.frame.now (new s) a.out.now c.if-frame-d.true in
     (c.refused.ensures ∙ r.0, r.1)
 
 rewrite-file-requires : tie.Need-rewrite_file-requires
@@ -29,16 +29,16 @@ rewrite-file-requires c κs =
     let s = m.before.before.before.before in
     let a = s.args in
     one-rewritable s.requires.0 a.frame.now
-    (frame-packed a.d a.frame.now (new s) a.out.now (sym z.size-1.given.1 ∙ m.octet_count-size.ensures))
-    (omega (arith, s.requires.1, m.before.if-frame-d.false))
+    (frame-packed a.d a.frame.now (new s) a.out.now (sym z.in-Octets.is ∙ m.octet_count-size.ensures))
+    (omega (arith, s.requires.1, m.if-frame-d.false))
 
 returns-2 : tie.Need-returns-in-Outside
 returns-2 c =
     let m = c.before.before.before in
     let s = m.before.before.before.before in
     let a = s.args in
-    let r = pixel-outside a.d a.frame.now (new s) a.out.now m.before.if-frame-d.false
-    (sym c.before.enum_told-1.given.1 ∙ m.octet_count-size.ensures) in
+    let r = pixel-outside a.d a.frame.now (new s) a.out.now m.if-frame-d.false
+    (sym c.in-Outside.is ∙ m.octet_count-size.ensures) in
     (c.refused-in-Outside.ensures ∙ r.0, r.1)
 
 returns-3 : tie.Need-returns-in-Octets
@@ -48,8 +48,8 @@ returns-3 c =
     let m = z.before.before in
     let s = m.before.before.before.before in
     let a = s.args in
-    frame-fits a.d a.frame.now (new s) a.out.now m.before.if-frame-d.false
-    (sym z.size-1.given.1 ∙ m.octet_count-size.ensures)
+    frame-fits a.d a.frame.now (new s) a.out.now m.if-frame-d.false
+    (sym z.in-Octets.is ∙ m.octet_count-size.ensures)
     (one-rewritten s.requires.0 a.frame.now) f.rewrite_file.ensures
 
 pub replace_section_spec : {M : Type 1} → statement M

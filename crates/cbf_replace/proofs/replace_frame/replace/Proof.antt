@@ -11,48 +11,48 @@ use Rattle.cbf_replace.proofs.replace_frame.replace.Tie as tie
 
 -- what the reader says of each answer of its own
 said : (m : tie.After-section_place-place) {x : SectionPlace} → m.section_place-place.result ≡ x
-    → let a = m.before.before.before.args in
+    → let a = m.args in
     PlaceSays a.limit a.file.now a.number (F.read a.limit a.file.now) x
 said m e =
-    let a = m.before.before.before.args in
+    let a = m.args in
     subst (PlaceSays a.limit a.file.now a.number (F.read a.limit a.file.now)) e
     m.section_place-place.ensures
 
 -- the section that was found
-here : (b : tie.In-At-2)
-    → let a = b.before.before.before.before.before.args in
-    (p : Placed) × Here a.limit a.file.now a.number p b.place-in-At-1.given.0.0
+here : (b : tie.In-At)
+    → let a = b.args in
+    (p : Placed) × Here a.limit a.file.now a.number p b.in-At.found
 here b =
     let m = b.before.before in
-    let a = m.before.before.before.args in
-    here_of a.limit a.number a.file.now b.place-in-At-1.given.0.0
-    (said m b.place-in-At-1.given.1)
+    let a = m.args in
+    here_of a.limit a.number a.file.now b.in-At.found
+    (said m b.in-At.is)
 
 replace-section-requires : tie.Need-replace_section-requires
 replace-section-requires c κs =
-    let h = (here c.before.before.before.before.before.before).1 in (h.there, h.few)
+    let h = (here c.before.before.before.before.before).1 in (h.there, h.few)
 
 returns : tie.Need-returns-in-Refused
 returns c =
     let b = c.before in
     let m = b.before.before in
-    let a = m.before.before.before.args in
-    replace-refused a.limit a.file.now a.number b.place-1.given.0.0 a.frame.now a.out.now
-    (said m b.place-1.given.1)
+    let a = m.args in
+    replace-refused a.limit a.file.now a.number b.in-Refused.r a.frame.now a.out.now
+    (said m b.in-Refused.is)
 
 returns-2 : tie.Need-returns-in-Binary
 returns-2 c =
     let u = c.before.before in
     let b = u.before.before.before.before.before.before.before in
-    let a = b.before.before.before.before.before.args in
-    replace-binary (here b).1 a.frame.now a.out.now u.before.before.enum_told-1.given.1
+    let a = b.args in
+    replace-binary (here b).1 a.frame.now a.out.now u.in-Binary.is
     u.replace_section.ensures
 
 returns-3 : tie.Need-returns-in-Base64
 returns-3 c =
-    let b = c.before.before.before.before.before.before in
-    let a = b.before.before.before.before.before.args in
-    let r = replace-text (here b).1 a.frame.now a.out.now c.before.enum_told-in-Base64-1.given.1 in
+    let b = c.before.before.before.before.before in
+    let a = b.args in
+    let r = replace-text (here b).1 a.frame.now a.out.now c.in-Base64.is in
     (c.refused.ensures ∙ r.0, r.1)
 
 pub replace_spec : {M : Type 1} → statement M

@@ -23,17 +23,17 @@ copied s =
 copy-requires : tie.Need-copy-requires
 copy-requires c κs =
     let s = c.before.before.before.before.before in
-    rw (copied s) (s.requires.2.room c.before.before.if-writing.true)
+    rw (copied s) (s.requires.2.room c.if-writing.true)
 
 returns : tie.Need-returns-then-writing
 returns c =
     let m = c.before.before in
     let s = m.before.before.before.before.before.before in
-    rw m.before.before.before.if-writing.true (rw (copied s) at m.copy.ensures)
+    rw m.if-writing.true (rw (copied s) at m.copy.ensures)
 
 returns-2 : tie.Need-returns
 returns-2 c =
-    let a = c.before.before.before.args in
+    let a = c.args in
     rw c.if-writing.false (omega (arith, length-drop a.from a.file.now), refl)
 
 pub pass_rest_spec : {M : Type 1} → statement M

@@ -11,11 +11,11 @@ use Rattle.cbf_rewrite.proofs.parts.pass_span.Tie as tie
 
 put-through-requires : tie.Need-put_through-requires
 put-through-requires c κs =
-    let s = c.before.before.before.before in (s.requires.0, s.requires.1.room c.before.if-writing.true)
+    let s = c.before.before.before.before in (s.requires.0, s.requires.1.room c.if-writing.true)
 
 returns : tie.Need-returns-then-writing
 returns c =
-    let m = c.before.before in rw m.before.before.if-writing.true m.put_through.ensures
+    let m = c.before.before in rw m.if-writing.true m.put_through.ensures
 
 returns-2 : tie.Need-returns
 returns-2 c =
@@ -24,7 +24,7 @@ returns-2 c =
     let p = s.requires.0 in
     let os = pack_byte_offset a.frame.now in
     let before = slice a.from a.s.from a.file.now in
-    rw c.before.before.if-writing.false (
+    rw c.if-writing.false (
       omega (
         arith,
         c.span_length.ensures.0 os p.packed.counted,

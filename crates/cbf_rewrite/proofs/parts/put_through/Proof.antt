@@ -28,7 +28,7 @@ copied s =
 
 after-copy : (m : tie.After-copy-boundary)
     → let s = m.before.before.before.before.before in
-    Put s.args.out.now s.args.at (before s) m.copy-boundary.result m.copy-boundary.new.0
+    Put s.args.out.now s.args.at (before s) m.copy-boundary.result m.copy-boundary.new.out
 after-copy m = rw (copied m.before.before.before.before.before) at m.copy-boundary.ensures
 
 copy-requires : tie.Need-copy-boundary-requires
@@ -38,7 +38,7 @@ copy-requires c κs =
 
 put-span-requires : tie.Need-put_span-requires
 put-span-requires c κs =
-    let m = c.before.before.before in
+    let m = c.before.before.before.before in
     let s = m.before.before.before.before.before in
     let p = after-copy m in
     let a = s.args in (

@@ -30,7 +30,7 @@ decreases-loop file limit numbers ends sizes frames out₀ writing c₀ x₀ k�
 
 loop-holds : tie.Need-loop-k-init invariant-loop decreases-loop
 loop-holds c =
-    let p = c.before.before.before.before.before.before.before.before.requires in rewriting-start p.0 p.1
+    let p = c.requires in rewriting-start p.0 p.1
 
 -- what a turn knows: where the loop is, and that a chosen section is ahead
 
@@ -46,25 +46,25 @@ more m = omega (arith, m.loop-k-test.true)
 -- the file is accepted, and has the chosen sections
 
 same_length : tie.Need-shape_of-out-in-Refused invariant-loop decreases-loop
-same_length c = rewriting-kept c.before.before.before.before.loop-k.invariant
+same_length c = rewriting-kept c.loop-k.invariant
 
 returns : tie.Need-returns-in-Refused invariant-loop decreases-loop
 returns c =
     let m = c.before.before.before in
-    absurd (rewriting-refused m.before.loop-k.invariant (more m) c.before.next-1.given.1)
+    absurd (rewriting-refused m.loop-k.invariant (more m) c.in-Refused.is)
 
 same-length-2 : tie.Need-shape_of-out-in-End invariant-loop decreases-loop
-same-length-2 c = rewriting-kept c.before.before.before.loop-k.invariant
+same-length-2 c = rewriting-kept c.loop-k.invariant
 
 returns-2 : tie.Need-returns-in-End invariant-loop decreases-loop
 returns-2 c =
     let m = c.before.before in
-    absurd (rewriting-end m.before.loop-k.invariant (more m) c.enum_told-1.given.1)
+    absurd (rewriting-end m.loop-k.invariant (more m) c.in-End.is)
 
 add-if1 : tie.Need-overflow_add-cursor invariant-loop decreases-loop
 add-if1 c =
     let m = c.before.before.before.before in
-    record { fits = omega (arith, rewriting-few m.before.loop-k.invariant (more m)) }
+    record { fits = omega (arith, rewriting-few m.loop-k.invariant (more m)) }
 
 shared-slice-read-if1 : tie.Need-bounds-numbers-k invariant-loop decreases-loop
 shared-slice-read-if1 c = more c.before.before.before.before.before
@@ -134,7 +134,7 @@ pass-span-requires : tie.Need-pass_span-at-requires invariant-loop decreases-loo
 pass-span-requires c κs =
     let t = c.before.before.before.before in
     let m = test t in
-    rewriting-span m.before.loop-k.invariant (more m) t.before.before.before.before.next-in-Found-1.given.1
+    rewriting-span m.loop-k.invariant (more m) t.in-Found.is
     t.if-cursor-numbers.true (frame_is m.before (more m))
 
 -- after the section, chosen or not
@@ -143,36 +143,35 @@ loop-less : tie.Need-loop-k-smaller invariant-loop decreases-loop
 loop-less c =
     let n = c.before.before.before.before.before in
     let m = n.before.before in
-    let r = m.before.loop-k.invariant in
-    rw r.requires.accepted (rewriting-less r (more m) n.next-in-Found-1.given.1)
+    let r = m.loop-k.invariant in
+    rw r.pre.accepted (rewriting-less r (more m) n.in-Found.is)
 
 loop-again : tie.Need-loop-k-preserved invariant-loop decreases-loop
 loop-again c =
     let n = c.before.before.before.before.before in
     let m = n.before.before in
-    let r = m.before.loop-k.invariant in
-    let is = n.next-in-Found-1.given.1 in
+    let r = m.loop-k.invariant in
     ⊎_elim
     (λ w. rewriting-chosen r (more m) is w.0.taken (frame_is m.before (more m)) (w.12 ∙ w.5.ensures.0)
     (w.8 ∙ w.5.ensures.1) (omega (arith, w.9)) w.10 w.11
     (λ h. c.section_ahead-next.ensures (lt-ltb _ _ h)))
     (λ w. rewriting-other r (more m) is w.0.left w.2 w.3 w.4 w.5 w.1
     (λ h. c.section_ahead-next.ensures (lt-ltb _ _ h)))
-    c.before.if-cursor-numbers.branch
+    c.if-cursor-numbers.branch-raw
 
 -- after the last chosen section
 
 pass-rest-requires : tie.Need-pass_rest-requires invariant-loop decreases-loop
-pass-rest-requires c κs = rewriting-rest c.before.before.loop-k.invariant (omega (arith, c.before.loop-k-test.false))
+pass-rest-requires c κs = rewriting-rest c.loop-k.invariant (omega (arith, c.loop-k-test.false))
 
 same-length-3 : tie.Need-shape_of-out invariant-loop decreases-loop
-same-length-3 c = omega (arith, rewriting-kept c.before.before.before.before.before.loop-k.invariant)
+same-length-3 c = omega (arith, rewriting-kept c.loop-k.invariant)
 
 returns-3 : tie.Need-returns invariant-loop decreases-loop
 returns-3 c =
     let m = c.before.before in
     let e = m.pass_rest.ensures in
-    rewriting-done m.before.before.before.loop-k.invariant (omega (arith, m.before.before.loop-k-test.false))
+    rewriting-done m.loop-k.invariant (omega (arith, m.loop-k-test.false))
     e.0 e.1
 
 pub spans_from_spec : {M : Type 1} → statement M

@@ -11,20 +11,20 @@ use Rattle.cbf_sections.proofs.frame.placed.Tie as tie
 returns : tie.Need-returns-then-r-eq13
 returns c =
     let b = c.before.before.before in
-    let a = b.before.before.args in
-    placed-13 a.first b.answer-in-Refused-1.given.0.0 c.if-r-eq13.true ∙ ap (λ (x : Answer). placed_at a.first (outcome x)) (sym b.answer-in-Refused-1.given.1)
+    let a = b.args in
+    placed-13 a.first b.in-Refused.r c.if-r-eq13.true ∙ ap (λ (x : Answer). placed_at a.first (outcome x)) (sym b.in-Refused.is)
 
 returns-2 : tie.Need-returns-in-Length
 returns-2 c =
     let b = c.before in
-    let a = b.before.before.args in
-    ap (λ (x : Answer). placed_at a.first (outcome x)) (sym b.answer-1.given.1)
+    let a = b.args in
+    ap (λ (x : Answer). placed_at a.first (outcome x)) (sym b.in-Length.is)
 
 returns-3 : tie.Need-returns-else-r-eq13
 returns-3 c =
     let b = c.before.before.before in
-    let a = b.before.before.args in
-    placed-other a.first b.answer-in-Refused-1.given.0.0 c.if-r-eq13.false ∙ ap (λ (x : Answer). placed_at a.first (outcome x)) (sym b.answer-in-Refused-1.given.1)
+    let a = b.args in
+    placed-other a.first b.in-Refused.r c.if-r-eq13.false ∙ ap (λ (x : Answer). placed_at a.first (outcome x)) (sym b.in-Refused.is)
 
 pub placed_spec : {M : Type 1} → statement M
 placed_spec = tie.close (tie.spec (λ c. search rules) (λ c. search rules) returns returns-2 returns-3)

@@ -13,44 +13,43 @@ use Rattle.cbf_sections.proofs.frame.unpack.Tie as tie
 
 -- what the reader says of each answer of its own
 said : (m : tie.After-numbered_section-numbered) {x : Numbered} → m.numbered_section-numbered.result ≡ x
-    → NumberedSays m.before.before.args.file.now m.before.before.args.number
-    (F.read m.before.before.args.limit m.before.before.args.file.now) x
+    → NumberedSays m.args.file.now m.args.number
+    (F.read m.args.limit m.args.file.now) x
 said m e =
-    let a = m.before.before.args in
+    let a = m.args in
     subst (NumberedSays a.file.now a.number (F.read a.limit a.file.now)) e m.numbered_section-numbered.ensures
 
 -- the section that was found, with the octets that it stands for
-framed : (b : tie.In-As-2)
-    → let a = b.before.before.before.before.args in
+framed : (b : tie.In-As)
+    → let a = b.args in
     (p : Placed)
     × (section_numbered (F.read a.limit a.file.now) a.number ≡ value p)
-    × FrameOf a.file.now p b.numbered-in-As-1.given.0.0
+    × FrameOf a.file.now p b.in-As.s
 framed b =
     let m = b.before.before in
-    let a = m.before.before.args in
-    frame-of a.limit a.number a.file.now b.numbered-in-As-1.given.0.0 (said m b.numbered-in-As-1.given.1)
+    let a = m.args in
+    frame-of a.limit a.number a.file.now b.in-As.s (said m b.in-As.is)
 
 unpack-octets-requires : tie.Need-unpack_octets-requires
 unpack-octets-requires c κs =
-    let f = framed c.before.before in
+    let f = framed c.before in
     (f.0, f.2)
 
 returns : tie.Need-returns-in-Refused
 returns c =
     let b = c.before in
     let m = b.before.before in
-    let a = m.before.before.args in
-    frame_refused a.file.now a.number (F.read a.limit a.file.now) b.numbered-1.given.0.0 a.out.now (said m b.numbered-1.given.1)
+    let a = m.args in
+    frame_refused a.file.now a.number (F.read a.limit a.file.now) b.in-Refused.r a.out.now (said m b.in-Refused.is)
 
 returns-2 : tie.Need-returns-in-As
 returns-2 c =
     let u = c.before.before in
     let b = u.before.before.before in
-    let a = b.before.before.before.before.args in
+    let a = b.args in
     let f = framed b in
     let q = frame-says a.limit a.number a.file.now f.1 f.2 a.out.now in
-    let s = b.numbered-in-As-1.given.0.0 in
-    (c.placed.ensures ∙ ap (placed_at s.first) (u.unpack_octets.ensures.0 f.0 f.2) ∙ q.0, u.unpack_octets.ensures.1 f.0 f.2 ∙ q.1)
+    (c.placed.ensures ∙ ap (placed_at b.in-As.s.first) (u.unpack_octets.ensures.0 f.0 f.2) ∙ q.0, u.unpack_octets.ensures.1 f.0 f.2 ∙ q.1)
 
 pub unpack_spec : {M : Type 1} → statement M
 unpack_spec =

@@ -6,30 +6,30 @@ use Rattle.cbf_sections.proofs.frame.unpack_octets.Statement.{statement}
 use Rattle.cbf_sections.proofs.frame.unpack_octets.Tie as tie
 
 add-unpack : tie.Need-overflow_add-first
-add-unpack c = let b = frame-binary c.before.before.before.before.requires.1 c.enum_told-1.given.1 in omega (arith, b.high)
+add-unpack c = let b = frame-binary c.requires.1 c.in-Binary.is in omega (arith, b.high)
 
 part-unpack-end : tie.Need-slice_bounds-unpack-end
-part-unpack-end c = let b = frame-binary c.before.before.before.before.requires.1 c.enum_told-1.given.1 in omega (arith, b.high)
+part-unpack-end c = let b = frame-binary c.requires.1 c.in-Binary.is in omega (arith, b.high)
 
 sub-unpack-2 : tie.Need-overflow_sub-s
 sub-unpack-2 c =
-    let t = frame-text c.before.before.before.before.before.requires.1 c.before.enum_told-in-Base64-1.given.1 in
+    let t = frame-text c.requires.1 c.in-Base64.is in
     omega (arith, t.long)
 
 unpack-requires-2 : tie.Need-unpack-requires-in-Base64
-unpack-requires-2 c κs = (frame-text c.before.before.before.before.before.before.requires.1 c.before.before.enum_told-in-Base64-1.given.1).fits
+unpack-requires-2 c κs = (frame-text c.requires.1 c.in-Base64.is).fits
 
 returns : tie.Need-returns-in-Binary
 returns c =
     let b = c.before.before.before.before in
-    let a = b.before.before.before.before.args in
-    said_of a.out.now (λ p f. part-taken (frame-binary f b.enum_told-1.given.1)) c.before.unpack.ensures
+    let a = b.args in
+    said_of a.out.now (λ p f. part-taken (frame-binary f b.in-Binary.is)) c.unpack.ensures
 
 returns-2 : tie.Need-returns-in-Base64
 returns-2 c =
     let b = c.before.before.before.before in
-    let a = b.before.before.before.before.args in
-    said_of a.out.now (λ p f. (frame-text f b.enum_told-in-Base64-1.given.1).is) c.before.unpack-in-Base64.ensures
+    let a = b.args in
+    said_of a.out.now (λ p f. (frame-text f b.in-Base64.is).is) c.unpack-in-Base64.ensures
 
 pub unpack_octets_spec : {M : Type 1} → statement M
 unpack_octets_spec =

@@ -12,27 +12,27 @@ use Rattle.cbf_sections.proofs.section_calls.octets.Tie as tie
 
 -- the part of the file at the place that was answered
 part : (m : tie.After-octets_at-place) {x : OctetsPlace} → m.octets_at-place.result ≡ x
-    → let a = m.before.before.args in
+    → let a = m.args in
     PartFor a.file.now (octets_part (octets_of (F.read a.limit a.file.now) a.number)) (place_of x)
 part m e =
-    let a = m.before.before.args in
+    let a = m.args in
     let file = a.file.now in
     subst (PartFor file (octets_part (octets_of (F.read a.limit file) a.number)))
     (sym m.octets_at-place.ensures ∙ ap place_of e)
     (part_at a.limit a.number file)
 
 joined : (c : tie.At-match-branch)
-    → let a = c.before.before.before.args in
-    PartAt a.file.now (octets_part (octets_of (F.read a.limit a.file.now) a.number)) c.match-place.from c.match-place.to
+    → let a = c.args in
+    PartAt a.file.now (octets_part (octets_of (F.read a.limit a.file.now) a.number)) c.in-Refused.from c.in-Refused.to
 joined c = ⊎_elim
     (λ w. rw (w.3, w.4) (part c.before w.1.given.1))
     (λ w. rw (w.3, w.4) (part c.before w.1.given.1))
-    c.match-place.branch
+    c.in-Refused.branch-raw
 
 add-to : tie.Need-overflow_add-to
 add-to c =
     let b = c.before in
-    let p = part b.before.before b.place-in-At-1.given.1 in
+    let p = part b.before.before b.in-At.is in
     omega (arith, p.high)
 
 sub-result : tie.Need-slice_bounds-result-count

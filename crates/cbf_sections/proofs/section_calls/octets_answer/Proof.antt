@@ -10,19 +10,19 @@ use Rattle.cbf_sections.proofs.section_calls.octets_answer.Tie as tie
 
 -- what is answered for each place
 said : (m : tie.After-octets_at-place) {x : OctetsPlace} → m.octets_at-place.result ≡ x
-    → let a = m.before.before.args in
+    → let a = m.args in
     place_outcome (place_of x) ≡ octets_outcome (octets_of (F.read a.limit a.file.now) a.number)
 said m e =
-    let a = m.before.before.args in
+    let a = m.args in
     ap (λ (y : OctetsPlace). place_outcome (place_of y)) (sym e)
     ∙ ap place_outcome m.octets_at-place.ensures
     ∙ place-outcome (octets_of (F.read a.limit a.file.now) a.number)
 
 returns : tie.Need-returns-in-Refused
-returns c = said c.before.before.before c.before.place-1.given.1
+returns c = said c.before.before.before c.in-Refused.is
 
 returns-2 : tie.Need-returns-in-At
-returns-2 c = said c.before.before.before c.before.place-in-At-1.given.1
+returns-2 c = said c.before.before.before c.in-At.is
 
 pub octets_answer_spec : {M : Type 1} → statement M
 octets_answer_spec =

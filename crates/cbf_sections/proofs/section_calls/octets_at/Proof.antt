@@ -10,21 +10,21 @@ use Rattle.cbf_sections.proofs.section_calls.octets_at.Tie as tie
 
 -- the place for each answer of the reader
 said : (m : tie.After-numbered_section-numbered) {x : Numbered} → m.numbered_section-numbered.result ≡ x
-    → let a = m.before.before.args in
+    → let a = m.args in
     numbered_place x ≡ octets_place (octets_of (F.read a.limit a.file.now) a.number)
 said m e =
-    let a = m.before.before.args in
+    let a = m.args in
     ap numbered_place (sym e)
     ∙ place_in a.limit a.number a.file.now m.numbered_section-numbered.result m.numbered_section-numbered.ensures
 
 returns : tie.Need-returns-in-Refused
-returns c = said c.before.before.before c.before.numbered-1.given.1
+returns c = said c.before.before.before c.in-Refused.is
 
 returns-2 : tie.Need-returns-in-Binary
-returns-2 c = let b = c.before.before.before.before in rw c.enum_told-1.given.1 at (said b.before.before b.numbered-in-As-1.given.1)
+returns-2 c = let b = c.before.before.before.before in rw c.in-Binary.is at (said b.before.before b.in-As.is)
 
 returns-3 : tie.Need-returns-in-Base64
-returns-3 c = let b = c.before.before.before.before in rw c.enum_told-in-Base64-1.given.1 at (said b.before.before b.numbered-in-As-1.given.1)
+returns-3 c = let b = c.before.before.before.before in rw c.in-Base64.is at (said b.before.before b.in-As.is)
 
 pub octets_at_spec : {M : Type 1} → statement M
 octets_at_spec =

@@ -10,14 +10,14 @@ use Rattle.cbf_sections.proofs.section_calls.read.Tie as tie
 
 -- what is answered for each count
 said : (m : tie.After-count_sections-count) {x : Count} → m.count_sections-count.result ≡ x
-    → count_says x ≡ read_outcome (F.read m.before.before.args.limit m.before.before.args.file.now)
-said m e = let a = m.before.before.args in ap count_says (sym e ∙ m.count_sections-count.ensures) ∙ count-outcome (F.read a.limit a.file.now)
+    → count_says x ≡ read_outcome (F.read m.args.limit m.args.file.now)
+said m e = let a = m.args in ap count_says (sym e ∙ m.count_sections-count.ensures) ∙ count-outcome (F.read a.limit a.file.now)
 
 returns : tie.Need-returns-in-Refused
-returns c = said c.before.before.before c.before.count-1.given.1
+returns c = said c.before.before.before c.in-Refused.is
 
 returns-2 : tie.Need-returns-in-Sections
-returns-2 c = said c.before.before.before c.before.count-in-Sections-1.given.1
+returns-2 c = said c.before.before.before c.in-Sections.is
 
 pub read_spec : {M : Type 1} → statement M
 read_spec =

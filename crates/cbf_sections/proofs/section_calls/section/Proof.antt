@@ -7,7 +7,7 @@ use Rattle.cbf_sections.proofs.section_calls.section.Tie as tie
 
 returns : tie.Need-returns
 returns c =
-    let a = c.before.before.args in
+    let a = c.args in
     let file = a.file.now in
     let r = F.read a.limit file in
     let s = c.numbered_section.result in

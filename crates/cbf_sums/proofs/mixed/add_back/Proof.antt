@@ -15,13 +15,13 @@ loop-holds : tie.Need-loop-j-init invariant-loop decreases-loop
 loop-holds c = (omega arith, written_none _ _ _ c.requires.1)
 
 sub-wrapping-add-u16 : tie.Need-overflow_sub-j invariant-loop decreases-loop
-sub-wrapping-add-u16 c = omega (arith, c.before.before.before.requires.0)
+sub-wrapping-add-u16 c = omega (arith, c.requires.0)
 
 loop-again : tie.Need-loop-j-preserved invariant-loop decreases-loop
-loop-again c = (omega arith, written-more _ _ _ _ _ _ c.before.before.before.before.loop-j.invariant.1 (omega arith) c.wrapping_add_u16.ensures)
+loop-again c = (omega arith, written-more _ _ _ _ _ _ c.loop-j.invariant.1 (omega arith) c.wrapping_add_u16.ensures)
 
 returns : tie.Need-returns invariant-loop decreases-loop
-returns c = written-first 192 c.before.loop-j.invariant.1 (omega arith)
+returns c = written-first 192 c.loop-j.invariant.1 (omega arith)
 
 pub add_back_spec : {M : Type 1} → statement M
 add_back_spec =

@@ -19,11 +19,11 @@ loop-holds c = (omega arith, λ e k h. let y : ⊥ = omega arith in absurd y)
 
 loop-again : tie.Need-loop-j-preserved invariant-loop decreases-loop
 loop-again c =
-    let l = c.before.before.before.before.loop-j in
-    (omega arith, or-none (crowd c.before.before.before.before.before.args.marks.now) l.j l.all-1 l.invariant.1)
+    let l = c.loop-j in
+    (omega arith, or-none (crowd c.args.marks.now) l.j l.all l.invariant.1)
 
 returns : tie.Need-returns invariant-loop decreases-loop
-returns c = λ e j h. c.before.loop-j.invariant.1 e j (omega arith)
+returns c = λ e j h. c.loop-j.invariant.1 e j (omega arith)
 
 pub crowded_spec : {M : Type 1} → statement M
 crowded_spec =

@@ -16,10 +16,10 @@ loop-holds : tie.Need-loop-j-init invariant-loop decreases-loop
 loop-holds c = (omega arith, written_none _ _ _ c.requires)
 
 loop-again : tie.Need-loop-j-preserved invariant-loop decreases-loop
-loop-again c = (omega arith, written-more _ _ _ _ _ _ c.before.before.before.before.loop-j.invariant.1 (omega arith) c.joined.ensures)
+loop-again c = (omega arith, written-more _ _ _ _ _ _ c.loop-j.invariant.1 (omega arith) c.joined.ensures)
 
 returns : tie.Need-returns invariant-loop decreases-loop
-returns c = written-first 192 c.before.loop-j.invariant.1 (omega arith)
+returns c = written-first 192 c.loop-j.invariant.1 (omega arith)
 
 pub differences_spec : {M : Type 1} → statement M
 differences_spec =

@@ -7,7 +7,7 @@ use Rattle.cbf_sums.proofs.mixed.differences_of.Tie as tie
 returns : tie.Need-returns
 returns c =
     let h = c.before.before.before.before in
-    joined_is h.before.before.low_octets.ensures h.high_octets.ensures c.differences.ensures
+    joined_is h.low_octets.ensures h.high_octets.ensures c.differences.ensures
 
 pub differences_of_spec : {M : Type 1} → statement M
 differences_of_spec =

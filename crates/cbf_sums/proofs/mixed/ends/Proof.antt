@@ -17,8 +17,8 @@ loop-holds c = (omega arith, refl, omega arith)
 
 end-requires : tie.Need-end-count-requires invariant-loop decreases-loop
 end-requires c κs =
-    let each = c.before.before.before.before.requires in
-    let j = c.before.before.before.loop-j.j in
+    let each = c.requires in
+    let j = c.loop-j.j in
     (each (15 + j) (omega arith), each (16 + j) (omega arith))
 
 add-count : tie.Need-overflow_add-count invariant-loop decreases-loop
@@ -26,13 +26,13 @@ add-count c = omega (arith, c.end-count.ensures.1)
 
 loop-again : tie.Need-loop-j-preserved invariant-loop decreases-loop
 loop-again c =
-    let l = c.before.before.before.before.loop-j in
-    let e = ends_more c.before.before.before.before.before.args.marks.now l.j in
+    let l = c.loop-j in
+    let e = ends_more c.args.marks.now l.j in
     (omega arith, omega (arith, e, l.invariant.1, c.end-count.ensures.0), omega (arith, c.end-count.ensures.1))
 
 returns : tie.Need-returns invariant-loop decreases-loop
 returns c =
-    let l = c.before.loop-j in
+    let l = c.loop-j in
     let e : l.j ≡ 192 = omega arith in
     (rw (← e) l.invariant.1, omega arith)
 

@@ -13,21 +13,21 @@ abbrev decreases-loop : tie.decreases-loop-j
 decreases-loop octets i marks high₀ j₀ high j = 192 - j
 
 loop-holds : tie.Need-loop-j-init invariant-loop decreases-loop
-loop-holds c = (omega arith, written_none _ _ _ c.before.requires.3)
+loop-holds c = (omega arith, written_none _ _ _ c.requires.3)
 
 chosen-requires : tie.Need-chosen-requires invariant-loop decreases-loop
 chosen-requires c κs =
-    let each = c.before.before.before.before.before.before.before.before.requires.2 in
-    let j = c.before.before.before.before.before.before.loop-j.j in
+    let each = c.requires.2 in
+    let j = c.loop-j.j in
     (each (14 + j) (omega arith), each (15 + j) (omega arith), each (16 + j) (omega arith))
 
 loop-again : tie.Need-loop-j-preserved invariant-loop decreases-loop
 loop-again c =
-    let l = c.before.before.before.before.before.before.before.loop-j in
-    (omega arith, written-more _ _ _ _ _ _ l.invariant.1 (omega arith) (rw (← c.before.sign.ensures) c.chosen.ensures))
+    let l = c.loop-j in
+    (omega arith, written-more _ _ _ _ _ _ l.invariant.1 (omega arith) (rw (← c.sign.ensures) c.chosen.ensures))
 
 returns : tie.Need-returns invariant-loop decreases-loop
-returns c = written-first 192 c.before.loop-j.invariant.1 (omega arith)
+returns c = written-first 192 c.loop-j.invariant.1 (omega arith)
 
 pub high_octets_spec : {M : Type 1} → statement M
 high_octets_spec =

@@ -14,21 +14,21 @@ add-result : tie.Need-overflow_add-result
 add-result c = let s = c.before.before.before.before in let t = top_small s.args.top s.requires.0 in omega (arith, s.requires.1.1, c.total.ensures.1)
 
 sub-result : tie.Need-overflow_sub-result
-sub-result c = let f = c.before.before.before.is_far.ensures c.before.before.if-is_far.true in omega (arith, f.0)
+sub-result c = let f = c.is_far.ensures c.if-is_far.true in omega (arith, f.0)
 
 returns : tie.Need-returns-then-is_far
 returns c = λ _.
     let s = c.before.before.before.before in
     let a = s.args in
-    let f = c.before.before.before.is_far.ensures c.before.before.if-is_far.true in
+    let f = c.is_far.ensures c.if-is_far.true in
     subst (λ (r : ℕ). Walk a.added.now biased_least a.top a.biased (a.biased + r - 6291456)) (sym c.total.ensures.0)
     (walk-far a.added.now s.requires.3.number biased_least a.top a.biased f.0 f.1)
 
 base-of-requires : tie.Need-base_of-base-requires
-base-of-requires c κs = let p = c.before.before.requires in (p.0, p.1, omega arith, omega (arith, p.2))
+base-of-requires c κs = let p = c.requires in (p.0, p.1, omega arith, omega (arith, p.2))
 
 near-requires : tie.Need-near-above-requires
-near-requires c κs = let b = c.before.base_of-base.ensures in (omega (arith, b.low, b.high), c.before.before.before.before.requires.3)
+near-requires c κs = let b = c.base_of-base.ensures in (omega (arith, b.low, b.high), c.requires.3)
 
 returns-2 : tie.Need-returns-then-above-gt32767
 returns-2 c = λ h. absurd (h refl)
@@ -37,15 +37,15 @@ add-result-2 : tie.Need-overflow_add-result-2
 add-result-2 c =
     let s = c.before.before.before.before.before.before in
     let t = top_small s.args.top s.requires.0 in
-    let b = c.before.before.before.base_of-base.ensures in
+    let b = c.base_of-base.ensures in
     omega (arith, b.greatest, c.if-above-gt32767.false)
 
 returns-3 : tie.Need-returns
 returns-3 c = λ _.
-    let a = c.before.before.before.before.before.before.args in
-    let base = c.before.before.before.base_of-base.result in
-    let b = c.before.before.before.base_of-base.ensures in
-    let n = c.before.near-above in
+    let a = c.args in
+    let base = c.base_of-base.result in
+    let b = c.base_of-base.ensures in
+    let n = c.near-above in
     let e : base + (a.biased - base) ≡ a.biased = omega (arith, b.low) in
     subst (λ (x : ℕ). Walk a.added.now biased_least a.top x (base + n.result)) e
     (walk-within a.added.now biased_least a.top base (base + 32767) (base + (a.biased - base)) (base + n.result) b.least (omega (arith, b.greatest))

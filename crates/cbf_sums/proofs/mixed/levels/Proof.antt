@@ -19,10 +19,10 @@ loop-holds c = (omega arith, c.requires, λ ds b W L. L, λ k h. let y : ⊥ = o
 
 loop-again : tie.Need-loop-j-preserved invariant-loop decreases-loop
 loop-again c =
-    let a = c.before.before.before.before.before.before.before.args in
-    let l = c.before.before.before.before.before.before.loop-j in
-    let t = c.before.before.before.before.before.loop-j-test.true in
-    let more = c.before.before.wrapping_add_u16-more in
+    let a = c.args in
+    let l = c.loop-j in
+    let t = c.loop-j-test.true in
+    let more = c.wrapping_add_u16-more in
     let x = c.wrapping_add_u16-level in
     let here : 16 + l.j < length l.pixels = omega (arith, l.invariant.1, t) in (
       omega arith,
@@ -34,7 +34,7 @@ loop-again c =
 
 returns : tie.Need-returns invariant-loop decreases-loop
 returns c =
-    let l = c.before.loop-j in
+    let l = c.loop-j in
     let e : l.j ≡ 192 = omega (arith, l.invariant.0, c.loop-j-test.false) in
     (λ ds b W L. subst (λ (k : ℕ). Levels 65536 ds 16 b k l.pixels) e (l.invariant.2 ds b W L), λ k h. l.invariant.3 k (omega arith))
 

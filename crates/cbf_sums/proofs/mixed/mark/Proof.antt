@@ -6,11 +6,11 @@ use Rattle.cbf_sums.proofs.mixed.mark.Tie as tie
 
 returns : tie.Need-returns-then-o-eq128
 unfolding mark_of
-returns c = rw (eq-eqb c.before.args.o 128 c.if-o-eq128.true)
+returns c = rw (eq-eqb c.args.o 128 c.if-o-eq128.true)
 
 returns-2 : tie.Need-returns-else-o-eq128
 unfolding mark_of
-returns-2 c = rw (ne_eqb c.before.args.o 128 c.if-o-eq128.false)
+returns-2 c = rw (ne_eqb c.args.o 128 c.if-o-eq128.false)
 
 pub mark_spec : {M : Type 1} → statement M
 mark_spec = tie.close (tie.spec returns returns-2)

@@ -13,13 +13,13 @@ abbrev decreases-loop : tie.decreases-loop-j
 decreases-loop octets i marks₀ j₀ marks j = 192 - j
 
 loop-holds : tie.Need-loop-j-init invariant-loop decreases-loop
-loop-holds c = (omega arith, written_none _ _ _ c.before.requires.1)
+loop-holds c = (omega arith, written_none _ _ _ c.requires.1)
 
 loop-again : tie.Need-loop-j-preserved invariant-loop decreases-loop
-loop-again c = (omega arith, written-more _ _ _ _ _ _ c.before.before.before.loop-j.invariant.1 (omega arith) c.mark.ensures)
+loop-again c = (omega arith, written-more _ _ _ _ _ _ c.loop-j.invariant.1 (omega arith) c.mark.ensures)
 
 returns : tie.Need-returns invariant-loop decreases-loop
-returns c = written-first 192 c.before.loop-j.invariant.1 (omega arith)
+returns c = written-first 192 c.loop-j.invariant.1 (omega arith)
 
 pub mark_each_spec : {M : Type 1} → statement M
 mark_each_spec =

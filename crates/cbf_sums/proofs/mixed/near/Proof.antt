@@ -10,7 +10,7 @@ add-back-requires : tie.Need-add_back-requires
 add-back-requires c κs = (omega arith, refl)
 
 add-back-requires-2 : tie.Need-add_back-requires-2
-add-back-requires-2 c κs = (omega arith, c.before.before.before.before.before.requires.1.long)
+add-back-requires-2 c κs = (omega arith, c.requires.1.long)
 
 returns : tie.Need-returns-then-all-gt32767
 returns c = λ h. let y : ⊥ = omega arith in absurd y
@@ -20,14 +20,14 @@ returns-2 c = λ h.
     let s = c.before.before.before.before.before.before.before.before.before.before in
     let ds = s.args.added.now in
     let A = s.requires.1 in
-    let pairs = c.before.before.before.before.before.before.before.add_back in
-    let fours = c.before.before.before.before.add_back-2 in
-    let L = c.before.levels-all in
+    let pairs = c.add_back in
+    let fours = c.add_back-2 in
+    let L = c.levels-all in
     let one = windows-one 65536 ds 192 A.none in
-    let two = windows-twice 65536 ds 16 1 192 208 ds (replicate 208 0) pairs.new.1.1.0 (omega arith) one zeros pairs.ensures in
-    let four = windows-twice 65536 ds 16 2 192 208 pairs.new.1.1.0 ds fours.new.1.1.0 (omega arith) two A.none fours.ensures in
+    let two = windows-twice 65536 ds 16 1 192 208 ds (replicate 208 0) pairs.new.sums (omega arith) one zeros pairs.ensures in
+    let four = windows-twice 65536 ds 16 2 192 208 pairs.new.sums ds fours.new.sums (omega arith) two A.none fours.ensures in
     let start = levels-start 65536 ds 16 s.args.c 208 (omega (arith, s.requires.0)) (omega arith) in
-    walk-near ds s.args.c L.new.1.0 (L.ensures.0 ds s.args.c four start)
+    walk-near ds s.args.c L.new.pixels (L.ensures.0 ds s.args.c four start)
     (λ k b. omega (arith, L.ensures.1 k b, c.if-all-gt32767.false)) s.requires.0 A.number
 
 pub near_spec : {M : Type 1} → statement M

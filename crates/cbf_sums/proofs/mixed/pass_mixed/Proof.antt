@@ -15,16 +15,16 @@ returns c = λ h. let y : ⊥ = omega arith in absurd y
 differences-of-requires : tie.Need-differences_of-requires
 differences-of-requires c κs =
     let s = c.before.before.before.before.before.before.before.before in
-    let m = c.before.before.before.before.before.mark_each in
-    (s.requires.3, s.requires.4, each-mark s.args.octets.now s.args.i m.new.1.1.0 (marked _ _ _ m.ensures), refl)
+    let m = c.mark_each in
+    (s.requires.3, s.requires.4, each-mark s.args.octets.now s.args.i m.new.marks (marked _ _ _ m.ensures), refl)
 
 last-pixel-requires : tie.Need-last_pixel-last-requires
 last-pixel-requires c κs =
     let s = c.before.before.before.before.before.before.before.before.before.before in
-    let k = c.before.before.before.before.before.before.before.before.before.shared_slice_known-1 in
-    let ms = c.before.before.before.before.before.before.before.mark_each.new.1.1.0 in
-    let d = c.before.differences_of in
-    let A = addends s.args.octets.now s.args.i ms d.new.1.1.1.0 (λ n. omega (arith, k.given n)) d.ensures in
+    let k = c.shared_slice_known-1 in
+    let ms = c.mark_each.new.marks in
+    let d = c.differences_of in
+    let A = addends s.args.octets.now s.args.i ms d.new.added (λ n. omega (arith, k.given n)) d.ensures in
     (s.requires.0, s.requires.1, s.requires.2, A)
 
 returns-2 : tie.Need-returns-then-last-eq0
@@ -33,23 +33,23 @@ returns-2 c = λ h. let y : ⊥ = omega arith in absurd y
 ends-requires : tie.Need-ends-requires
 ends-requires c κs =
     let s = c.before.before.before.before.before.before.before.before.before.before.before.before.before.before.before in
-    let m = c.before.before.before.before.before.before.before.before.before.before.before.before.mark_each in
-    each-mark s.args.octets.now s.args.i m.new.1.1.0 (marked _ _ _ m.ensures)
+    let m = c.mark_each in
+    each-mark s.args.octets.now s.args.i m.new.marks (marked _ _ _ m.ensures)
 
 returns-3 : tie.Need-returns
 returns-3 c = λ _.
     let s = c.before.before.before.before.before.before.before.before.before.before.before.before.before.before.before.before in
     let os = s.args.octets.now in
-    let k = c.before.before.before.before.before.before.before.before.before.before.before.before.before.before.before.shared_slice_known-1 in
-    let m = c.before.before.before.before.before.before.before.before.before.before.before.before.before.mark_each in
-    let ms = m.new.1.1.0 in
-    let d = c.before.before.before.before.before.before.before.differences_of in
-    let ds = d.new.1.1.1.0 in
-    let last = c.before.before.before.before.before.last_pixel-last in
-    let whole = c.before.before.whole_octets in
-    let W = last.ensures c.before.before.before.before.if-last-eq0.false in
-    let none = c.before.before.before.before.before.before.before.before.before.before.if-crowded-ne0.false in
-    let apart = c.before.before.before.before.before.before.before.before.before.before.before.crowded.ensures none in
+    let k = c.shared_slice_known-1 in
+    let m = c.mark_each in
+    let ms = m.new.marks in
+    let d = c.differences_of in
+    let ds = d.new.added in
+    let last = c.last_pixel-last in
+    let whole = c.whole_octets in
+    let W = last.ensures c.if-last-eq0.false in
+    let none = c.if-crowded-ne0.false in
+    let apart = c.crowded.ensures none in
     let P = mixed-passes s.args.top os s.args.i ms ds s.args.biased last.result (marked _ _ _ m.ensures) apart d.ensures.is
     (λ n. omega (arith, k.given n)) s.requires.3 s.requires.4 W in
     let Q = subst (λ (n : ℕ). Passes s.args.top os s.args.biased s.args.i (ends_to ms 192) last.result (s.args.i + n))

@@ -6,11 +6,11 @@ use Rattle.cbf_sums.proofs.mixed.sign.Tie as tie
 
 returns : tie.Need-returns-then-o-lt128
 unfolding sign_of
-returns c = rw (lt-ltb c.before.args.o 128 c.if-o-lt128.true)
+returns c = rw (lt-ltb c.args.o 128 c.if-o-lt128.true)
 
 returns-2 : tie.Need-returns-else-o-lt128
 unfolding sign_of
-returns-2 c = rw (le-ltb c.before.args.o 128 c.if-o-lt128.false)
+returns-2 c = rw (le-ltb c.args.o 128 c.if-o-lt128.false)
 
 pub sign_spec : {M : Type 1} → statement M
 sign_spec = tie.close (tie.spec returns returns-2)

@@ -17,15 +17,15 @@ loop-holds c = (omega arith, refl, omega arith)
 
 loop-again : tie.Need-loop-j-preserved invariant-loop decreases-loop
 loop-again c =
-    let a = c.before.before.before.before.args in
-    let l = c.before.before.before.loop-j in
+    let a = c.args in
+    let l = c.loop-j in
     (omega arith, ap₂ ◌+◌ l.invariant.1 c.raised-total.ensures.0 ∙ sym (raised-more a.added.now l.j), omega (arith, l.invariant.2, c.raised-total.ensures.1))
 
 returns : tie.Need-returns invariant-loop decreases-loop
 returns c =
-    let l = c.before.loop-j in
+    let l = c.loop-j in
     let e : l.j ≡ 192 = omega (arith, l.invariant.0, c.loop-j-test.false) in
-    (l.invariant.1 ∙ ap (raised_to c.before.before.args.added.now) e, omega (arith, l.invariant.2))
+    (l.invariant.1 ∙ ap (raised_to c.args.added.now) e, omega (arith, l.invariant.2))
 
 pub total_spec : {M : Type 1} → statement M
 total_spec =

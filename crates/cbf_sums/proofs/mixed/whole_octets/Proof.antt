@@ -6,18 +6,18 @@ use Rattle.cbf_sums.proofs.mixed.whole_octets.Tie as tie
 
 returns : tie.Need-returns-then-marks-ne0
 unfolding whole_octets
-returns c = (rw (lt-ltb 0 (get_or c.before.before.args.marks.now 207 0) (omega arith)), omega arith)
+returns c = (rw (lt-ltb 0 (get_or c.args.marks.now 207 0) (omega arith)), omega arith)
 
 returns-2 : tie.Need-returns-then-marks-ne0-2
 unfolding whole_octets
 returns-2 c =
-    let ms = c.before.before.before.before.args.marks.now in
+    let ms = c.args.marks.now in
     (rw (le-ltb 0 (get_or ms 207 0) (omega arith), lt-ltb 0 (get_or ms 206 0) (omega arith)), omega arith)
 
 returns-3 : tie.Need-returns-else-marks-ne0-2
 unfolding whole_octets
 returns-3 c =
-    let ms = c.before.before.before.before.args.marks.now in
+    let ms = c.args.marks.now in
     (rw (le-ltb 0 (get_or ms 207 0) (omega arith), le-ltb 0 (get_or ms 206 0) (omega arith)), omega arith)
 
 pub whole_octets_spec : {M : Type 1} → statement M

@@ -4,7 +4,7 @@ use Rattle.cbf_sums.proofs.near.add4.Statement.{statement}
 use Rattle.cbf_sums.proofs.near.add4.Tie as tie
 
 returns : tie.Need-returns
-returns c = omega (arith, c.before.before.wrapping_add_u8-ab.ensures, c.before.wrapping_add_u8-cd.ensures, c.wrapping_add_u8.ensures)
+returns c = omega (arith, c.wrapping_add_u8-ab.ensures, c.wrapping_add_u8-cd.ensures, c.wrapping_add_u8.ensures)
 
 pub add4_spec : {M : Type 1} → statement M
 add4_spec = tie.close (tie.spec (λ c κs. search rules) (λ c κs. search rules) (λ c κs. search rules) returns)

@@ -12,16 +12,16 @@ abbrev decreases-loop : tie.decreases-loop-j
 decreases-loop octets i n sums₀ j₀ sums j = n - j
 
 loop-holds : tie.Need-loop-j-init invariant-loop decreases-loop
-loop-holds c = (omega arith, written_none _ _ _ c.before.requires.3)
+loop-holds c = (omega arith, written_none _ _ _ c.requires.3)
 
 loop-again : tie.Need-loop-j-preserved invariant-loop decreases-loop
 loop-again c =
-    let p = c.before.before.before.before.before.before.before.before.requires in
-    let l = c.before.before.before.before.before.before.loop-j in
+    let p = c.requires in
+    let l = c.loop-j in
     (omega arith, written-more _ _ _ _ _ _ l.invariant.1 (omega (arith, p.2)) c.add4.ensures)
 
 returns : tie.Need-returns invariant-loop decreases-loop
-returns c = written-first c.before.before.before.args.n c.before.loop-j.invariant.1 (omega (arith, c.loop-j-test.false))
+returns c = written-first c.args.n c.loop-j.invariant.1 (omega (arith, c.loop-j-test.false))
 
 pub fours_spec : {M : Type 1} → statement M
 fours_spec =

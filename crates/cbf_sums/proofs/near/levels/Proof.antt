@@ -19,12 +19,12 @@ loop-holds c = (omega arith, c.requires.1, λ os i b W L. L, λ k h. let y : ⊥
 
 loop-again : tie.Need-loop-j-preserved invariant-loop decreases-loop
 loop-again c =
-    let p = c.before.before.before.before.before.before.before.before.before.requires in
-    let a = c.before.before.before.before.before.before.before.before.before.args in
-    let l = c.before.before.before.before.before.before.before.before.loop-j in
-    let t = c.before.before.before.before.before.before.before.loop-j-test.true in
+    let p = c.requires in
+    let a = c.args in
+    let l = c.loop-j in
+    let t = c.loop-j-test.true in
     let x = c.wrapping_add_u8-level.result in
-    let more = c.before.before.add4-more in
+    let more = c.add4-more in
     let here : 16 + l.j < length l.pixels = omega (arith, p.0, l.invariant.1) in (
       omega arith,
       length-set l.pixels (16 + l.j) x ∙ l.invariant.1,
@@ -35,8 +35,8 @@ loop-again c =
 
 returns : tie.Need-returns invariant-loop decreases-loop
 returns c =
-    let a = c.before.before.args in
-    let l = c.before.loop-j in
+    let a = c.args in
+    let l = c.loop-j in
     let e : l.j ≡ a.n = omega (arith, l.invariant.0, c.loop-j-test.false) in
     (λ os i b W L. subst (λ (k : ℕ). Levels 256 os i b k l.pixels) e (l.invariant.2 os i b W L), λ k h. l.invariant.3 k (omega arith))
 

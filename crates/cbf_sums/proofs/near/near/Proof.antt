@@ -8,7 +8,7 @@ use Rattle.cbf_sums.proofs.near.near.Tie as tie
 
 windows-requires : tie.Need-windows-requires
 windows-requires c κs =
-    let p = c.before.before.requires in
+    let p = c.requires in
     (p.0, p.1, p.2, p.3, refl, λ k h. get_or-replicate 1040 k 0 0 (omega arith))
 
 returns : tie.Need-returns-then-all-gt127
@@ -16,14 +16,14 @@ returns c = λ h. let y : ⊥ = omega arith in absurd y
 
 returns-2 : tie.Need-returns
 returns-2 c = λ h.
-    let a = c.before.before.before.before.before.before.before.args in
-    let p = c.before.before.before.before.before.before.before.requires in
-    let E = c.before.levels-all.ensures in
+    let a = c.args in
+    let p = c.requires in
+    let E = c.levels-all.ensures in
     let t = c.if-all-gt127.false in
     let start = levels-start 256 a.octets.now a.i a.c 1040 (omega (arith, p.4)) (omega arith) in
-    stays a.octets.now a.i a.n a.c c.before.levels-all.new.1.1.0
-    (E.0 a.octets.now a.i a.c c.before.before.before.before.windows.ensures start)
-    (λ k b. omega (arith, E.1 k b)) p.4 p.5 p.1 (λ k. omega (arith, c.before.before.before.before.before.before.shared_slice_known-1.given k))
+    stays a.octets.now a.i a.n a.c c.levels-all.new.pixels
+    (E.0 a.octets.now a.i a.c c.windows.ensures start)
+    (λ k b. omega (arith, E.1 k b)) p.4 p.5 p.1 (λ k. omega (arith, c.shared_slice_known-1.given k))
 
 pub near_spec : {M : Type 1} → statement M
 near_spec =

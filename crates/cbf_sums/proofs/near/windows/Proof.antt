@@ -6,12 +6,12 @@ use Rattle.cbf_sums.proofs.near.windows.Tie as tie
 
 returns : tie.Need-returns
 returns c =
-    let a = c.before.before.before.before.before.before.before.before.before.before.before.args in
-    let p = c.before.before.before.before.before.before.before.before.before.before.before.requires in
-    let F = c.before.before.before.before.before.before.before.before.fours in
-    let two = c.before.before.before.before.add4 in
+    let a = c.args in
+    let p = c.requires in
+    let F = c.fours in
+    let two = c.add4 in
     let three = c.add4-2 in
-    windows-of a.octets.now a.i a.n a.sums.now F.new.1.1.1.0 F.ensures p.5 p.0 (get_or a.octets.now a.i 0)
+    windows-of a.octets.now a.i a.n a.sums.now F.new.sums F.ensures p.5 p.0 (get_or a.octets.now a.i 0)
     two.result three.result refl two.ensures three.ensures
 
 pub windows_spec : {M : Type 1} → statement M

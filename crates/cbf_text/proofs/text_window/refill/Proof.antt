@@ -8,18 +8,18 @@ returns : tie.Need-returns-then-w-got
 returns c =
     let S = c.before.before.before.before.before.before.before.before.before.before.before.before.before.before.before in
     let a = S.args in
-    let d = c.before.before.before.before.before.before.decode-d in
-    let s = c.before.before.before.before.before.before.before.before.before.before.slide in
-    refilled-last a.file.now a.to a.window.now _ _ a.w _ _ S.requires.2 s.ensures.0 d.ensures.0 s.ensures.1 c.before.if-w-got.true
+    let d = c.decode-d in
+    let s = c.slide in
+    refilled-last a.file.now a.to a.window.now _ _ a.w _ _ S.requires.2 s.ensures.0 d.ensures.0 s.ensures.1 c.if-w-got.true
 
 returns-2 : tie.Need-returns
 returns-2 c =
     let S = c.before.before.before.before.before.before.before.before.before.before.before.before.before.before.before in
     let a = S.args in
-    let d = c.before.before.before.before.before.before.decode-d in
-    let s = c.before.before.before.before.before.before.before.before.before.before.slide in
+    let d = c.decode-d in
+    let s = c.slide in
     refilled-more a.file.now a.to a.window.now _ _ a.w _ _ S.requires.2 s.ensures.0 d.ensures.0
-    s.ensures.1 c.before.if-w-got.false d.ensures.1
+    s.ensures.1 c.if-w-got.false d.ensures.1
 
 pub refill_spec : {M : Type 1} → statement M
 refill_spec =

@@ -16,18 +16,18 @@ loop-holds c = (omega arith, slid-none _ _)
 
 loop-again : tie.Need-loop-j-preserved invariant-loop decreases-loop
 loop-again c =
-    let l = c.before.before.loop-j in
-    let a = c.before.before.before.args in
+    let l = c.loop-j in
+    let a = c.args in
     (omega arith, slid-more a.next l.j a.window.now l.window (omega arith) l.invariant.1)
 
 same_length : tie.Need-shape_of-window invariant-loop decreases-loop
-same_length c = c.before.loop-j.invariant.1.size
+same_length c = c.loop-j.invariant.1.size
 
 returns : tie.Need-returns invariant-loop decreases-loop
 returns c =
-    let l = c.before.loop-j in
-    let a = c.before.before.args in
-    let p = c.before.before.requires in
+    let l = c.loop-j in
+    let a = c.args in
+    let p = c.requires in
     (slid-all a.next a.have l.j a.window.now l.window p.0 p.1 (omega arith) l.invariant.1, l.invariant.1.size)
 
 pub slide_spec : {M : Type 1} → statement M

@@ -31,33 +31,33 @@ loop-holds c =
     (omega arith, loaded-none a.kind c.octets_per-width.result a.file.now a.from a.to _ a.out.now _ a.size p.0 p.3 refl refl)
 
 slice-aggregate-refill : tie.Need-slice_bounds-refill-end invariant-loop decreases-loop
-slice-aggregate-refill c = sym c.before.before.loop-k.invariant.1.size
+slice-aggregate-refill c = sym c.loop-k.invariant.1.size
 
 refill-requires : tie.Need-refill-v-requires invariant-loop decreases-loop
 refill-requires c κs =
-    let p = c.before.before.before.before.before.requires in
-    let L = c.before.before.loop-k.invariant.1 in
+    let p = c.requires in
+    let L = c.loop-k.invariant.1 in
     (p.1, (λ i g h. p.2 i (omega arith) h), L.holds)
 
 div-least : tie.Need-nonzero_div-v invariant-loop decreases-loop
-div-least c = omega (arith, has-octets c.before.before.before.before.before.before.before.before.args.kind)
+div-least c = omega (arith, has-octets c.args.kind)
 
 least-requires : tie.Need-least-n-requires invariant-loop decreases-loop
 least-requires c κs = tt
 
 -- the window has the octets of the n pixels, and there is one
 turn : (c : tie.After-least-n invariant-loop decreases-loop)
-    → (c.least-n.result * c.before.before.before.before.before.before.before.octets_per-width.result ≤
-    c.before.before.before.refill-v.result.have) × (0 < c.least-n.result)
+    → (c.least-n.result * c.octets_per-width.result ≤
+    c.refill-v.result.have) × (0 < c.least-n.result)
 turn c =
     let S = c.before.before.before.before.before.before.before.before.before in
     let a = S.args in
-    let e = c.before.before.before.before.before.before.before.octets_per-width.ensures in
-    let r = c.before.before.before.refill-v in
-    let k = c.before.before.before.before.before.loop-k-test.true in
+    let e = c.octets_per-width.ensures in
+    let r = c.refill-v in
+    let k = c.loop-k-test.true in
     let A = all-octets a.kind a.count a.size _ S.requires.4 S.requires.3 ∙ ap (λ (i : ℕ). i * a.count) (sym e.0) in
     let o = some-octets a.kind _ a.file.now a.from a.to _ a.out.now
-    c.before.before.before.before.before.before.loop-k.invariant.1 r.ensures.0.0 r.ensures.0.1
+    c.loop-k.invariant.1 r.ensures.0.0 r.ensures.0.1
     r.ensures.0.2 r.ensures.1.2 a.count A k e.1 r.ensures.1.0 in
     whole-pixels c.least-n.result _ _ _ (omega (arith, has-octets a.kind)) o (omega arith) c.least-n.ensures.1 c.least-n.ensures.2
 
@@ -80,25 +80,25 @@ loop-again : tie.Need-loop-k-preserved invariant-loop decreases-loop
 loop-again c =
     let S = c.before.before.before.before.before.before.before.before.before.before.before.before.before in
     let a = S.args in
-    let r = c.before.before.before.before.before.before.before.refill-v in
-    let l = c.before.before.before.before.before.before.before.before.before.before.loop-k in
-    let n = c.before.before.before.before.least-n.result in
+    let r = c.refill-v in
+    let l = c.loop-k in
+    let n = c.least-n.result in
     let m : l.k + n ≤ a.count = omega arith in (
       m,
       loaded-more a.kind _ a.file.now a.from a.to _ a.out.now l.invariant.1 r.ensures.0.0
           r.ensures.0.1 r.ensures.0.2 r.ensures.1.2 n _ (turn c.before.before.before.before).0
-          c.before.before.before.before.before.before.before.before.before.before.before.octets_per-width.ensures.0 (omega arith) (omega arith) r.ensures.1.1 c.before.unpack.ensures.1,
+          c.octets_per-width.ensures.0 (omega arith) (omega arith) r.ensures.1.1 c.unpack.ensures.1,
     )
 
 same_length : tie.Need-shape_of-out invariant-loop decreases-loop
-same_length c = c.before.loop-k.invariant.1.front.size
+same_length c = c.loop-k.invariant.1.front.size
 
 returns : tie.Need-returns invariant-loop decreases-loop
 returns c =
     let S = c.before.before.before.before in
     let a = S.args in
-    let l = c.before.loop-k in
-    loaded a.kind _ _ l.k a.count _ a.out.now l.out-1 refl c.before.before.octets_per-width.ensures.0
+    let l = c.loop-k in
+    loaded a.kind _ _ l.k a.count _ a.out.now l.out refl c.octets_per-width.ensures.0
     l.invariant.1.front (omega arith) (all-octets a.kind a.count a.size _ S.requires.4 S.requires.3)
 
 pub unpack_uncompressed_spec : {M : Type 1} → statement M

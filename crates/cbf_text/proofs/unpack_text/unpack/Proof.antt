@@ -31,20 +31,19 @@ unfolding Unpacked
 returns c =
     let S = c.before.before.before.before.before in
     let a = S.args in
-    let e = c.before.before.enum_told-1.given.1 in
     let os = text_octets a.file.now a.from a.to in
     let u = unpack-no-room Uncompressed a.kind a.count (take a.size os) a.out.now S.requires.4
-    (uncompressed-unpacks a.kind a.count a.size os (S.requires.5 e) S.requires.3) c.before.if-out-count.true in
+    (uncompressed-unpacks a.kind a.count a.size os (S.requires.5 e) S.requires.3) c.if-out-count.true in
     rw e (c.refused.ensures ∙ u.0, u.1)
 
 unpack-uncompressed-requires : tie.Need-unpack_uncompressed-requires
 unpack-uncompressed-requires c κs =
-    let p = c.before.before.before.before.before.requires in
-    (p.0, p.1, p.2, p.3, p.5 c.before.before.enum_told-1.given.1, p.4, c.before.if-out-count.false)
+    let p = c.requires in
+    (p.0, p.1, p.2, p.3, p.5 c.in-Uncompressed.is, p.4, c.if-out-count.false)
 
 pass-requires : tie.Need-pass-requires
 pass-requires c κs =
-    let p = c.before.before.before.before.requires in
+    let p = c.requires in
     (p.0, p.1, p.2, p.3, never)
 
 returns-2 : tie.Need-returns-then-not-pass
@@ -52,33 +51,33 @@ unfolding Unpacked unpack_pixels
 returns-2 c =
     let S = c.before.before.before.before.before.before.before.before in
     let a = S.args in
-    let E = c.before.before.before.pass.ensures in
+    let E = c.pass.ensures in
     let u = unpack-bad ByteOffset a.kind a.count (take a.size (text_octets a.file.now a.from a.to))
-    a.out.now S.requires.4 (sym E.0 ∙ not-true _ c.before.if-not-pass.true) in
-    rw c.before.before.before.before.before.enum_told-in-ByteOffset-1.given.1 (c.refused-then-not-pass.ensures ∙ u.0, E.1 ∙ u.1)
+    a.out.now S.requires.4 (sym E.0 ∙ c.if-not-pass.true) in
+    rw c.in-ByteOffset.is (c.refused-then-not-pass.ensures ∙ u.0, E.1 ∙ u.1)
 
 returns-3 : tie.Need-returns-then-out-count-2
 unfolding Unpacked unpack_pixels
 returns-3 c =
     let S = c.before.before.before.before.before.before.before.before.before in
     let a = S.args in
-    let E = c.before.before.before.before.pass.ensures in
+    let E = c.pass.ensures in
     let u = unpack-no-room ByteOffset a.kind a.count (take a.size (text_octets a.file.now a.from
-    a.to)) a.out.now S.requires.4 (sym E.0 ∙ not-false _ c.before.before.if-not-pass.false)
+    a.to)) a.out.now S.requires.4 (sym E.0 ∙ c.if-not-pass.false)
     (omega (arith, ap length E.1)) in
-    rw c.before.before.before.before.before.before.enum_told-in-ByteOffset-1.given.1 (c.refused-then-out-count-2.ensures ∙ u.0, E.1 ∙ u.1)
+    rw c.in-ByteOffset.is (c.refused-then-out-count-2.ensures ∙ u.0, E.1 ∙ u.1)
 
 pass-requires-2 : tie.Need-pass-requires-in-ByteOffset
 pass-requires-2 c κs =
-    let p = c.before.before.before.before.before.before.before.before.before.requires in (
+    let p = c.requires in (
       p.0,
       p.1,
       p.2,
       p.3,
       (λ z. (
-        c.before.if-out-count-2.false,
-        sym c.before.before.before.before.pass.ensures.0
-            ∙ not-false _ c.before.before.if-not-pass.false,
+        c.if-out-count-2.false,
+        sym c.pass.ensures.0
+            ∙ c.if-not-pass.false,
       )),
     )
 
@@ -87,23 +86,22 @@ unfolding Unpacked unpack_pixels
 returns-4 c =
     let S = c.before.before.before.before.before.before.before in
     let a = S.args in
-    let e = c.before.before.before.before.enum_told-1.given.1 in
     let os = text_octets a.file.now a.from a.to in
     rw e (unpack-done Uncompressed a.kind a.count (take a.size os) a.out.now _ S.requires.4
     (uncompressed-unpacks a.kind a.count a.size os (S.requires.5 e) S.requires.3)
-    c.before.before.before.if-out-count.false c.before.unpack_uncompressed.ensures)
+    c.if-out-count.false c.unpack_uncompressed.ensures)
 
 returns-5 : tie.Need-returns-else-out-count-2
 unfolding Unpacked unpack_pixels
 returns-5 c =
     let S = c.before.before.before.before.before.before.before.before.before.before.before in
     let a = S.args in
-    let E = c.before.before.before.before.before.before.pass.ensures in
+    let E = c.pass.ensures in
     let os = text_octets a.file.now a.from a.to in
-    rw c.before.before.before.before.before.before.before.before.enum_told-in-ByteOffset-1.given.1
+    rw c.in-ByteOffset.is
     (unpack-done ByteOffset a.kind a.count (take a.size os) a.out.now _ S.requires.4 (sym E.0
-    ∙ not-false _ c.before.before.before.before.if-not-pass.false) (omega (arith, ap length E.1))
-    (c.before.pass-in-ByteOffset.ensures.1 ∙ ap (λ (out : List ℤ). pixels_of (unpack_byte_offset a.kind a.count
+    ∙ c.if-not-pass.false) (omega (arith, ap length E.1))
+    (c.pass-in-ByteOffset.ensures.1 ∙ ap (λ (out : List ℤ). pixels_of (unpack_byte_offset a.kind a.count
     (take a.size os)) ++ drop a.count out) E.1))
 
 pub unpack_spec : {M : Type 1} → statement M

@@ -23,8 +23,8 @@ decreases-loop octets i pixel out₀ k z₀ j₀ out z j = 32 - j
 
 loop-holds : tie.Need-loop-j-init invariant-loop decreases-loop
 loop-holds c =
-    let a = c.before.args in
-    let u = unpacks-held c.before.requires.0 in
+    let a = c.args in
+    let u = unpacks-held c.requires.0 in
     (omega arith, filled-as (filled_none a.k a.out.now u.before (omega arith)) refl refl refl (omega arith))
 
 wide-requires : tie.Need-wide-requires invariant-loop decreases-loop
@@ -36,18 +36,18 @@ extended-requires c κs = record { exponent = 7; power = refl; small = omega ari
 -- where the octet was read: it is a difference, and one more pixel unpacks
 took : (c : tie.After-extended-z invariant-loop decreases-loop)
     → Took
-    c.before.before.before.before.before.before.args.octets.now
-    (c.before.before.before.before.before.before.args.i + c.before.before.before.before.loop-j.j)
+    c.args.octets.now
+    (c.args.i + c.loop-j.j)
     c.extended-z.result
-    (c.before.before.before.before.before.before.args.i + c.before.before.before.before.loop-j.j + 1)
+    (c.args.i + c.loop-j.j + 1)
 unfolding half
 took c =
-    let a = c.before.before.before.before.before.before.args in
-    let P = c.before.before.before.before.before.before.requires in
-    let l = c.before.before.before.before.loop-j in
+    let a = c.args in
+    let P = c.requires in
+    let l = c.loop-j in
     let os = a.octets.now in
-    let t = c.before.before.before.loop-j-test.true in
-    let e = c.before.wide.ensures.0 in
+    let t = c.loop-j-test.true in
+    let e = c.wide.ensures.0 in
     let r = c.extended-z.ensures 1 refl ∙ ap (signed 1) e in
     subst
     (λ (v : ℤ). Took os (a.i + l.j) v (a.i + l.j + 1))
@@ -56,39 +56,39 @@ took c =
 
 unpacks : (c : tie.After-extended-z invariant-loop decreases-loop)
     → Unpacks
-    c.before.before.before.before.before.before.args.octets.now
-    (to_z w64 c.before.before.before.before.loop-j.z)
-    (c.before.before.before.before.before.before.args.i + c.before.before.before.before.loop-j.j)
+    c.args.octets.now
+    (to_z w64 c.loop-j.z-bits)
+    (c.args.i + c.loop-j.j)
     1
     0
-unpacks c = unpacks-then 1 (unpacks-held c.before.before.before.before.before.before.requires.0)
-    c.before.before.before.before.loop-j.invariant.1 (omega arith)
+unpacks c = unpacks-then 1 (unpacks-held c.requires.0)
+    c.loop-j.invariant.1 (omega arith)
 
 add-z : tie.Need-overflow_add-z invariant-loop decreases-loop
 add-z c =
     let g = stepped (unpacks c) (took c) in
-    (held-sum {a = to_z w64 c.before.before.before.before.loop-j.z} refl g.held_value g.small).0
+    (held-sum {a = to_z w64 c.loop-j.z-bits} refl g.held_value g.small).0
 
 slice-set-from-z : tie.Need-bounds-out-k invariant-loop decreases-loop
-slice-set-from-z c = omega (arith, filled-length c.before.before.before.before.loop-j.invariant.1)
+slice-set-from-z c = omega (arith, filled-length c.loop-j.invariant.1)
 
 loop-again : tie.Need-loop-j-preserved invariant-loop decreases-loop
 loop-again c =
-    let a = c.before.before.before.before.before.before.args in
-    let l = c.before.before.before.before.loop-j in
+    let a = c.args in
+    let l = c.loop-j in
     let g = stepped (unpacks c) (took c) in
-    let one = filled-one (a.k + l.j) l.out (unpacks c) (took c) (held-sum {a = to_z w64 l.z} refl g.held_value g.small).1 in
+    let one = filled-one (a.k + l.j) l.out (unpacks c) (took c) (held-sum {a = to_z w64 l.z-bits} refl g.held_value g.small).1 in
     (omega arith, filled-as (filled-then l.invariant.1 one refl refl) refl refl refl (omega arith))
 
 same_length : tie.Need-shape_of-out invariant-loop decreases-loop
-same_length c = filled-length c.before.loop-j.invariant.1
+same_length c = filled-length c.loop-j.invariant.1
 
 returns : tie.Need-returns invariant-loop decreases-loop
 returns c =
-    let a = c.before.before.before.args in
-    let u = c.before.before.before.requires.0 in
-    let e : c.before.loop-j.j ≡ 32 = omega arith in
-    filled-as c.before.loop-j.invariant.1 (held a.pixel (omega (arith, u.before))) e refl (ap (λ (m : ℕ). a.i + m) e)
+    let a = c.args in
+    let u = c.requires.0 in
+    let e : c.loop-j.j ≡ 32 = omega arith in
+    filled-as c.loop-j.invariant.1 (held a.pixel (omega (arith, u.before))) e refl (ap (λ (m : ℕ). a.i + m) e)
 
 pub fill_block_spec : {M : Type 1} → statement M
 fill_block_spec =

@@ -15,23 +15,23 @@ decreases-loop octets out₀ k n last₀ j₀ out last j = n - j
 
 loop-holds : tie.Need-loop-j-init invariant-loop decreases-loop
 loop-holds c =
-    let a = c.before.args in
-    let P = c.before.requires in
+    let a = c.args in
+    let P = c.requires in
     (omega arith, filled_none a.k a.out.now P.0.before P.1)
 
 fill-one-requires : tie.Need-fill_one-last-requires invariant-loop decreases-loop
 fill-one-requires c κs =
-    let P = c.before.before.before.before.requires in
-    ready-then 1 15 P.0 c.before.before.loop-j.invariant.1 (omega arith) (omega arith) refl P.2
+    let P = c.requires in
+    ready-then 1 15 P.0 c.loop-j.invariant.1 (omega arith) (omega arith) refl P.2
 
 loop-again : tie.Need-loop-j-preserved invariant-loop decreases-loop
-loop-again c = (omega arith, filled-then c.before.before.before.before.loop-j.invariant.1 c.before.fill_one-last.ensures refl refl)
+loop-again c = (omega arith, filled-then c.loop-j.invariant.1 c.fill_one-last.ensures refl refl)
 
 same_length : tie.Need-shape_of-out invariant-loop decreases-loop
-same_length c = filled-length c.before.loop-j.invariant.1
+same_length c = filled-length c.loop-j.invariant.1
 
 returns : tie.Need-returns invariant-loop decreases-loop
-returns c = filled-as c.before.loop-j.invariant.1 refl (omega arith) refl refl
+returns c = filled-as c.loop-j.invariant.1 refl (omega arith) refl refl
 
 pub fill_each_spec : {M : Type 1} → statement M
 fill_each_spec =

@@ -8,12 +8,12 @@ use Rattle.cbf_unpack.proofs.fill.fill_few.Tie as tie
 
 fill-32-requires : tie.Need-fill_32-requires
 fill-32-requires c κs =
-    let a = c.before.before.before.args in
-    let P = c.before.before.before.requires in
+    let a = c.args in
+    let P = c.requires in
     ready-then 32 480 P.0 (filled_none a.k a.out.now P.0.before P.1) (omega arith) (omega arith) (omega arith) P.2
 
 returns-2 : tie.Need-returns
-returns-2 c = filled-as c.before.fill_32.ensures refl (omega arith) refl refl
+returns-2 c = filled-as c.fill_32.ensures refl (omega arith) refl refl
 
 pub fill_few_spec : {M : Type 1} → statement M
 fill_few_spec =

@@ -8,36 +8,36 @@ use Rattle.cbf_unpack.proofs.fill.fill_four.Tie as tie
 
 fill-one-requires : tie.Need-fill_one-a-requires
 fill-one-requires c κs =
-    let a = c.before.before.args in
-    let P = c.before.before.requires in
+    let a = c.args in
+    let P = c.requires in
     ready-then 1 15 P.0 (filled_none a.k a.out.now P.0.before P.1) (omega arith) (omega arith) (omega arith) P.2
 
 fill-one-requires-2 : tie.Need-fill_one-b-requires
 fill-one-requires-2 c κs =
-    let P = c.before.before.before.before.before.requires in
-    ready-then 1 15 P.0 c.before.before.fill_one-a.ensures (omega arith) (omega arith) refl P.2
+    let P = c.requires in
+    ready-then 1 15 P.0 c.fill_one-a.ensures (omega arith) (omega arith) refl P.2
 
 fill-one-requires-3 : tie.Need-fill_one-c-requires
 fill-one-requires-3 c κs =
-    let P = c.before.before.before.before.before.before.before.before.requires in
-    let two = filled-then {n' = 2} c.before.before.before.before.before.fill_one-a.ensures c.before.before.fill_one-b.ensures refl refl in
+    let P = c.requires in
+    let two = filled-then {n' = 2} c.fill_one-a.ensures c.fill_one-b.ensures refl refl in
     ready-then 1 15 P.0 two (omega arith) (omega arith) refl P.2
 
 fill-one-requires-4 : tie.Need-fill_one-requires
 fill-one-requires-4 c κs =
-    let P = c.before.before.before.before.before.before.before.before.before.before.before.requires in
+    let P = c.requires in
     let two = filled-then {n' = 2}
-    c.before.before.before.before.before.before.before.before.fill_one-a.ensures
-    c.before.before.before.before.before.fill_one-b.ensures refl refl in
-    let three = filled-then {n' = 3} two c.before.before.fill_one-c.ensures refl refl in
+    c.fill_one-a.ensures
+    c.fill_one-b.ensures refl refl in
+    let three = filled-then {n' = 3} two c.fill_one-c.ensures refl refl in
     ready-then 1 15 P.0 three (omega arith) (omega arith) refl P.2
 
 returns : tie.Need-returns
 returns c =
-    let two = filled-then {n' = 2} c.before.before.before.before.before.before.before.before.before.before.fill_one-a.ensures c.before.before.before.before.before.before.before.fill_one-b.ensures refl refl
+    let two = filled-then {n' = 2} c.fill_one-a.ensures c.fill_one-b.ensures refl refl
     in
-    let three = filled-then {n' = 3} two c.before.before.before.before.fill_one-c.ensures refl refl in
-    filled-then three c.before.fill_one.ensures refl refl
+    let three = filled-then {n' = 3} two c.fill_one-c.ensures refl refl in
+    filled-then three c.fill_one.ensures refl refl
 
 pub fill_four_spec : {M : Type 1} → statement M
 fill_four_spec =

@@ -5,20 +5,20 @@ use Rattle.cbf_unpack.proofs.fill.fill_one.Statement.{statement}
 use Rattle.cbf_unpack.proofs.fill.fill_one.Tie as tie
 
 read-difference-requires : tie.Need-read_difference-d-requires
-read-difference-requires c κs = unpacks-whole c.before.requires.0
+read-difference-requires c κs = unpacks-whole c.requires.0
 
 add-z : tie.Need-overflow_add-z
 add-z c =
-    let d = c.before.before.before.before.read_difference-d in
-    let u = c.before.before.before.before.before.before.requires.0 in
+    let d = c.read_difference-d in
+    let u = c.requires.0 in
     let g = stepped u d.ensures in
     (held-sum g.held_before g.held_value g.small).0
 
 returns : tie.Need-returns
 returns c =
-    let a = c.before.before.before.before.before.before.args in
-    let d = c.before.before.before.before.read_difference-d in
-    let u = c.before.before.before.before.before.before.requires.0 in
+    let a = c.args in
+    let d = c.read_difference-d in
+    let u = c.requires.0 in
     let g = stepped u d.ensures in
     filled-one a.k a.out.now u d.ensures (held-sum g.held_before g.held_value g.small).1
 

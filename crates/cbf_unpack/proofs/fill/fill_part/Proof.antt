@@ -17,66 +17,66 @@ abbrev decreases-loop : tie.decreases-loop-j
 decreases-loop octets ended count out₀ k last₀ j₀ out last j = count - j
 
 loop-holds : tie.Need-loop-j-init invariant-loop decreases-loop
-loop-holds c = let a = c.before.args in let P = c.before.requires in (omega arith, filled_none a.k a.out.now P.0.before P.1)
+loop-holds c = let a = c.args in let P = c.requires in (omega arith, filled_none a.k a.out.now P.0.before P.1)
 
 sub-waits : tie.Need-overflow_sub-octets invariant-loop decreases-loop
-sub-waits c = c.before.loop-j.invariant.1.inside
+sub-waits c = c.loop-j.invariant.1.inside
 
 waits-requires : tie.Need-waits-requires invariant-loop decreases-loop
 waits-requires c κs = tt
 
 same_length : tie.Need-shape_of-out-then-waits invariant-loop decreases-loop
-same_length c = filled-length c.before.before.before.loop-j.invariant.1
+same_length c = filled-length c.loop-j.invariant.1
 
 returns : tie.Need-returns-then-waits invariant-loop decreases-loop
 returns c =
-    let l = c.before.before.before.loop-j in
-    let w = c.before.waits.ensures.0 c.if-waits.true in
+    let l = c.loop-j in
+    let w = c.waits.ensures.0 c.if-waits.true in
     filled-part _ l.invariant.1 l.invariant.0 (inr (w.0, omega (arith, w.1))) refl refl refl refl
 
 plain-run-requires : tie.Need-plain_run-n-requires invariant-loop decreases-loop
-plain-run-requires c κs = c.before.before.before.loop-j.invariant.1.inside
+plain-run-requires c κs = c.loop-j.invariant.1.inside
 
 part-requires : tie.Need-part-n-requires invariant-loop decreases-loop
 part-requires c κs = tt
 
 fill-few-requires : tie.Need-fill_few-last-requires invariant-loop decreases-loop
 fill-few-requires c κs =
-    let P = c.before.before.before.before.before.before.before.before.before.requires in
-    let l = c.before.before.before.before.before.before.before.loop-j in
-    let w = c.before.before.before.before.before.waits.ensures.1 c.before.before.before.before.if-waits.false in
-    let n = c.before.part-n in
-    let t = c.before.before.before.before.before.before.loop-j-test.true in
+    let P = c.requires in
+    let l = c.loop-j in
+    let w = c.waits.ensures.1 c.if-waits.false in
+    let n = c.part-n in
+    let t = c.loop-j-test.true in
     let r = part_then_lem n.result P.0 P.1 l.invariant.1 w (omega (arith, n.ensures.0)) n.ensures.1 refl P.2 in
     (r.0, r.1, r.2, n.ensures.1)
 
 fill-run-requires : tie.Need-fill_run-z-requires invariant-loop decreases-loop
 fill-run-requires c κs =
-    let P = c.before.before.before.before.before.before.before.before.before.requires in
-    let l = c.before.before.before.before.before.before.before.loop-j in
-    let n = c.before.before.before.plain_run-n in
-    let t = c.before.before.before.before.before.before.loop-j-test.true in
+    let P = c.requires in
+    let l = c.loop-j in
+    let n = c.plain_run-n in
+    let t = c.loop-j-test.true in
     let e = n.ensures in
     let r = run-then n.result P.0 P.1 l.invariant.1 (omega (arith, e.few)) refl P.2 in
     (unpacks-held r.0, e.inside, e.plain, e.blocks, r.1)
 
 add-t21 : tie.Need-overflow_add-last invariant-loop decreases-loop
-add-t21 c = omega (arith, c.before.before.before.before.before.plain_run-n.ensures.inside)
+add-t21 c = omega (arith, c.plain_run-n.ensures.inside)
 
 -- where the two arms meet: n more pixels are written
 joined : (c : tie.Joined-n-eq0 invariant-loop decreases-loop)
     → (0 < c.if-n-eq0.n)
-    × (c.before.before.before.before.before.loop-j.j + c.if-n-eq0.n ≤ c.before.before.before.before.before.before.before.args.count)
-    × Filled c.before.before.before.before.before.before.before.args.octets.now
-    c.before.before.before.before.before.loop-j.last.pixel
-    c.before.before.before.before.before.loop-j.last.next c.if-n-eq0.n c.if-n-eq0.new.pixel
-    c.if-n-eq0.new.next (c.before.before.before.before.before.before.before.args.k +
-    c.before.before.before.before.before.loop-j.j) c.before.before.before.before.before.loop-j.out
+    × (c.loop-j.j + c.if-n-eq0.n ≤ c.args.count)
+    × Filled c.args.octets.now
+    c.loop-j.last.pixel
+    c.loop-j.last.next c.if-n-eq0.n c.if-n-eq0.new.pixel
+    c.if-n-eq0.new.next (c.args.k +
+    c.loop-j.j) c.loop-j.out
     c.if-n-eq0.out
 joined c =
-    let l = c.before.before.before.before.before.loop-j in
-    let t = c.before.before.before.before.loop-j-test.true in
-    let e = c.before.plain_run-n.ensures in
+    let l = c.loop-j in
+    let t = c.loop-j-test.true in
+    let e = c.plain_run-n.ensures in
     ⊎_elim
     (λ w. (omega (arith, w.7, w.1.ensures.2 (omega arith)), omega (arith, w.7, w.1.ensures.0), rw (w.5, w.6, w.7) w.3.ensures))
     (λ w. (
@@ -86,7 +86,7 @@ joined c =
           (held l.last.pixel (omega (arith, l.invariant.1.after))) refl
           (sym (held w.3.result (omega (arith, w.3.ensures.after)))) refl),
     ))
-    c.if-n-eq0.branch
+    c.if-n-eq0.branch-raw
 
 add-j : tie.Need-overflow_add-j invariant-loop decreases-loop
 add-j c = omega (arith, (joined c.before).1)
@@ -97,14 +97,14 @@ loop-less c = omega (arith, (joined c.before).0, (joined c.before).1)
 loop-again : tie.Need-loop-j-preserved invariant-loop decreases-loop
 loop-again c =
     let r = joined c.before in
-    (r.1, filled-then c.before.before.before.before.before.before.loop-j.invariant.1 r.2 refl refl)
+    (r.1, filled-then c.loop-j.invariant.1 r.2 refl refl)
 
 same-length-2 : tie.Need-shape_of-out invariant-loop decreases-loop
-same-length-2 c = filled-length c.before.loop-j.invariant.1
+same-length-2 c = filled-length c.loop-j.invariant.1
 
 returns-2 : tie.Need-returns invariant-loop decreases-loop
 returns-2 c =
-    let l = c.before.loop-j in
+    let l = c.loop-j in
     filled-part _ l.invariant.1 l.invariant.0 (inl (omega (arith, l.invariant.0, c.loop-j-test.false))) refl refl refl refl
 
 pub fill_part_spec : {M : Type 1} → statement M

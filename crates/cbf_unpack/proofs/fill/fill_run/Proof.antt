@@ -20,36 +20,36 @@ decreases-loop octets i n pixel out₀ k z₀ j₀ out z j = n - j
 
 loop-holds : tie.Need-loop-j-init invariant-loop decreases-loop
 loop-holds c =
-    let a = c.before.args in
-    let u = unpacks-held c.before.requires.0 in
+    let a = c.args in
+    let u = unpacks-held c.requires.0 in
     (omega arith, refl, filled-as (filled_none a.k a.out.now u.before (omega arith)) refl refl refl (omega arith))
 
 fill-block-requires : tie.Need-fill_block-z-requires invariant-loop decreases-loop
 fill-block-requires c κs =
-    let a = c.before.before.before.before.args in
-    let P = c.before.before.before.before.requires in
-    let l = c.before.before.loop-j in
+    let a = c.args in
+    let P = c.requires in
+    let l = c.loop-j in
     let u = unpacks-then 32 (unpacks-held P.0) l.invariant.2 (omega arith) in
     (u, omega arith, plain-part a.octets.now a.i l.j a.n 32 P.2 (omega arith), omega (arith, filled-length l.invariant.2))
 
 loop-again : tie.Need-loop-j-preserved invariant-loop decreases-loop
 loop-again c =
-    let f = c.before.fill_block-z.ensures in (
+    let f = c.fill_block-z.ensures in (
       omega arith,
       omega arith,
-      filled-as (filled-then c.before.before.before.before.loop-j.invariant.2 f refl refl)
-          refl refl (sym (held c.before.fill_block-z.result (omega (arith, f.after)))) (omega arith),
+      filled-as (filled-then c.loop-j.invariant.2 f refl refl)
+          refl refl (sym (held c.fill_block-z.result (omega (arith, f.after)))) (omega arith),
     )
 
 same_length : tie.Need-shape_of-out invariant-loop decreases-loop
-same_length c = filled-length c.before.loop-j.invariant.2
+same_length c = filled-length c.loop-j.invariant.2
 
 returns : tie.Need-returns invariant-loop decreases-loop
 returns c =
-    let a = c.before.before.before.args in
-    let u = c.before.before.before.requires.0 in
-    let e : c.before.loop-j.j ≡ a.n = omega arith in
-    filled-as c.before.loop-j.invariant.2 (held a.pixel (omega (arith, u.before))) e refl (ap (λ (m : ℕ). a.i + m) e)
+    let a = c.args in
+    let u = c.requires.0 in
+    let e : c.loop-j.j ≡ a.n = omega arith in
+    filled-as c.loop-j.invariant.2 (held a.pixel (omega (arith, u.before))) e refl (ap (λ (m : ℕ). a.i + m) e)
 
 pub fill_run_spec : {M : Type 1} → statement M
 fill_run_spec =

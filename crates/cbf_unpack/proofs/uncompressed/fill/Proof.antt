@@ -21,22 +21,22 @@ is-signed-requires : tie.Need-is_signed-signed-requires invariant-loop decreases
 is-signed-requires c κs = tt
 
 loop-holds : tie.Need-loop-k-init invariant-loop decreases-loop
-loop-holds c = let a = c.before.before.before.args in (
+loop-holds c = let a = c.args in (
   omega arith,
   front-none c.is_signed-signed.result
-      c.before.octets_per-width.result a.octets.now a.out.now,
+      c.octets_per-width.result a.octets.now a.out.now,
 )
 
 -- the octets of the next pixel are there
 fits : (c : tie.In-loop-k invariant-loop decreases-loop)
-    → c.before.before.before.octets_per-width.result * c.before.loop-k.k +
-    c.before.before.before.octets_per-width.result ≤ length
-    c.before.before.before.before.before.args.octets.now
+    → c.octets_per-width.result * c.loop-k.k +
+    c.octets_per-width.result ≤ length
+    c.args.octets.now
 fits c =
-    let a = c.before.before.before.before.before.args in
-    let w = c.before.before.before.octets_per-width.result in
-    let e = ap (λ (k : ℕ). k * a.count) c.before.before.before.octets_per-width.ensures.0 in
-    omega (arith, next_fits w c.before.loop-k.k a.count c.loop-k-test.true, e, c.before.before.before.before.before.requires.0)
+    let a = c.args in
+    let w = c.octets_per-width.result in
+    let e = ap (λ (k : ℕ). k * a.count) c.octets_per-width.ensures.0 in
+    omega (arith, next_fits w c.loop-k.k a.count c.loop-k-test.true, e, c.requires.0)
 
 mul-pixel-at : tie.Need-overflow_mul-width invariant-loop decreases-loop
 mul-pixel-at c = record { fits = omega (arith, fits c) }
@@ -44,39 +44,39 @@ mul-pixel-at c = record { fits = omega (arith, fits c) }
 pixel-at-requires : tie.Need-pixel_at-z-requires invariant-loop decreases-loop
 pixel-at-requires c κs = (
   record {
-    type = c.before.before.before.before.before.args.kind;
+    type = c.args.kind;
     is =
-        c.before.before.before.octets_per-width.ensures.0;
+        c.octets_per-width.ensures.0;
   },
   fits c,
 )
 
 slice-set-from-z : tie.Need-bounds-out-k invariant-loop decreases-loop
-slice-set-from-z c = omega (arith, c.before.before.loop-k.invariant.1.size, c.before.before.before.before.before.before.requires.1)
+slice-set-from-z c = omega (arith, c.loop-k.invariant.1.size, c.requires.1)
 
 loop-again : tie.Need-loop-k-preserved invariant-loop decreases-loop
 unfolding pixel_after
 loop-again c =
-    let a = c.before.before.before.before.before.before.args in
-    let l = c.before.before.loop-k in
+    let a = c.args in
+    let l = c.loop-k in
     let F = l.invariant.1 in
-    let w = c.before.before.before.before.octets_per-width.result in (
+    let w = c.octets_per-width.result in (
       omega arith,
-      front-more c.before.before.before.is_signed-signed.result w l.k a.octets.now a.out.now
-          l.out _ F (omega (arith, F.size, c.before.before.before.before.before.before.requires.1))
+      front-more c.is_signed-signed.result w l.k a.octets.now a.out.now
+          l.out _ F (omega (arith, F.size, c.requires.1))
           (held c.pixel_at-z.result c.pixel_at-z.type-inv ∙ c.pixel_at-z.ensures),
     )
 
 same_length : tie.Need-shape_of-out invariant-loop decreases-loop
-same_length c = c.before.loop-k.invariant.1.size
+same_length c = c.loop-k.invariant.1.size
 
 returns : tie.Need-returns invariant-loop decreases-loop
 returns c =
-    let a = c.before.before.before.before.before.args in
-    let l = c.before.loop-k in
+    let a = c.args in
+    let l = c.loop-k in
     loaded a.kind _ _ l.k a.count a.octets.now a.out.now l.out
-    c.before.before.is_signed-signed.ensures c.before.before.before.octets_per-width.ensures.0 l.invariant.1
-    (omega arith) c.before.before.before.before.before.requires.0
+    c.is_signed-signed.ensures c.octets_per-width.ensures.0 l.invariant.1
+    (omega arith) c.requires.0
 
 pub fill_spec : {M : Type 1} → statement M
 fill_spec =

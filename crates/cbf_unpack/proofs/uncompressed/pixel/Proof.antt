@@ -17,15 +17,15 @@ small H = let p : 2 ^ H.exponent ≤ 2 ^ 31 = pow-le-pow_right (omega arith) H.s
 returns : tie.Need-returns-then-signed
 unfolding pixel_of
 returns c k e =
-    to_z-of_z (record { sfits = c.extended.type-inv }) ∙ c.extended.ensures k e
-    ∙ ap (λ (b : Bool). pixel_of b k c.before.before.args.n) (sym c.before.if-signed.true)
+    to_z-of_z {w = w64} (record { sfits = c.extended.type-inv }) ∙ c.extended.ensures k e
+    ∙ ap (λ (b : Bool). pixel_of b k c.args.n) (sym c.if-signed.true)
 
 cast-result : tie.Need-overflow_cast-result
-cast-result c = record { sfits = small c.before.requires }
+cast-result c = record { sfits = small c.requires }
 
 returns-2 : tie.Need-returns
 unfolding pixel_of
-returns-2 c k e = to_z_pos w64 (small c.before.requires) ∙ ap (λ (b : Bool). pixel_of b k c.before.args.n) (sym c.if-signed.false)
+returns-2 c k e = to_z_pos w64 (small c.requires) ∙ ap (λ (b : Bool). pixel_of b k c.args.n) (sym c.if-signed.false)
 
 pub pixel_spec : {M : Type 1} → statement M
 pixel_spec = tie.close (tie.spec (λ c κs. search rules) returns cast-result returns-2)

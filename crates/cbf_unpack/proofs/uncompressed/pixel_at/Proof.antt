@@ -15,12 +15,12 @@ pixel-requires c κs = record { exponent = 7; power = refl; small = omega arith;
 returns : tie.Need-returns-then-width-eq1
 unfolding half
 returns c =
-    let a = c.before.before.before.before.before.args in
+    let a = c.args in
     held c.pixel.result c.pixel.type-inv
     ∙ c.pixel.ensures 1 refl
-    ∙ pixel-is a.signed a.i a.octets.now (c.before.wide.ensures.0
-    ∙ sym (number-one a.i a.octets.now (omega (arith, c.before.before.before.before.before.requires.1))))
-    c.before.before.before.if-width-eq1.true
+    ∙ pixel-is a.signed a.i a.octets.now (c.wide.ensures.0
+    ∙ sym (number-one a.i a.octets.now (omega (arith, c.requires.1))))
+    c.if-width-eq1.true
 
 pixel-requires-2 : tie.Need-pixel-requires-then-width-eq2
 pixel-requires-2 c κs = record { exponent = 15; power = refl; small = omega arith; fits = omega (arith, c.le2.ensures.1) }
@@ -28,15 +28,15 @@ pixel-requires-2 c κs = record { exponent = 15; power = refl; small = omega ari
 returns-2 : tie.Need-returns-then-width-eq2
 unfolding half
 returns-2 c =
-    let a = c.before.before.before.before.before.args in
+    let a = c.args in
     held c.pixel-then-width-eq2.result c.pixel-then-width-eq2.type-inv ∙ c.pixel-then-width-eq2.ensures 2 refl ∙ pixel-is a.signed a.i
-    a.octets.now c.before.le2.ensures.0 c.before.before.if-width-eq2.true
+    a.octets.now c.le2.ensures.0 c.if-width-eq2.true
 
-four : (c : tie.Else-width-eq2) → c.before.before.before.args.width ≡ 4
-four c = else-four c.before.before.before.args.width c.before.before.before.requires.0 c.before.if-width-eq1.false c.if-width-eq2.false
+four : (c : tie.Else-width-eq2) → c.args.width ≡ 4
+four c = else-four c.args.width c.requires.0 c.if-width-eq1.false c.if-width-eq2.false
 
 le4-requires : tie.Need-le4-requires
-le4-requires c κs = omega (arith, c.before.before.before.requires.1, four c)
+le4-requires c κs = omega (arith, c.requires.1, four c)
 
 pixel-requires-3 : tie.Need-pixel-requires-2
 pixel-requires-3 c κs = record { exponent = 31; power = refl; small = omega arith; fits = omega (arith, c.le4.ensures.1) }
@@ -44,9 +44,9 @@ pixel-requires-3 c κs = record { exponent = 31; power = refl; small = omega ari
 returns-3 : tie.Need-returns
 unfolding half
 returns-3 c =
-    let a = c.before.before.before.before.before.args in
+    let a = c.args in
     held c.pixel-2.result c.pixel-2.type-inv ∙ c.pixel-2.ensures 4 refl ∙ pixel-is a.signed a.i
-    a.octets.now c.before.le4.ensures.0 (four c.before.before)
+    a.octets.now c.le4.ensures.0 (four c.before.before)
 
 pub pixel_at_spec : {M : Type 1} → statement M
 pixel_at_spec =

@@ -10,15 +10,15 @@ use Rattle.cbf_unpack.proofs.unpacking.unpack.Tie as tie
 returns : tie.Need-returns-then-count-gt-PIXEL_LIMIT
 unfolding Unpacked
 returns c =
-    let a = c.before.before.before.args in
-    let u = unpack-many a.compression a.kind a.count a.octets.now a.out.now c.before.if-count-gt-PIXEL_LIMIT.true in
+    let a = c.args in
+    let u = unpack-many a.compression a.kind a.count a.octets.now a.out.now c.if-count-gt-PIXEL_LIMIT.true in
     (c.refused.ensures ∙ u.0, u.1)
 
 returns-2 : tie.Need-returns-in-Uncompressed
 returns-2 c =
-    let a = c.before.before.before.before.before.before.before.args in
-    let told = sym c.before.before.before.enum_told-1.given.1 in
-    let E = c.before.unpack_uncompressed.ensures in (
+    let a = c.args in
+    let told = sym c.in-Uncompressed.is in
+    let E = c.unpack_uncompressed.ensures in (
       E.0 ∙ ap (λ (x : Compression). unpack_outcome x a.kind a.count a.octets.now (length a.out.now))
           told,
       E.1 ∙ ap (λ (x : Compression). unpack_output x a.kind a.count a.octets.now a.out.now)
@@ -27,9 +27,9 @@ returns-2 c =
 
 returns-3 : tie.Need-returns-in-ByteOffset
 returns-3 c =
-    let a = c.before.before.before.before.before.before.before.args in
-    let told = sym c.before.before.before.enum_told-in-ByteOffset-1.given.1 in
-    let E = c.before.unpack_byte_offset.ensures in (
+    let a = c.args in
+    let told = sym c.in-ByteOffset.is in
+    let E = c.unpack_byte_offset.ensures in (
       E.0 ∙ ap (λ (x : Compression). unpack_outcome x a.kind a.count a.octets.now (length a.out.now))
           told,
       E.1 ∙ ap (λ (x : Compression). unpack_output x a.kind a.count a.octets.now a.out.now)

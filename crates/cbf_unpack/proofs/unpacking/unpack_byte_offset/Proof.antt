@@ -10,33 +10,33 @@ use Rattle.cbf_unpack.proofs.unpacking.unpack_byte_offset.Tie as tie
 returns : tie.Need-returns-then-not-validate
 unfolding Unpacked unpack_pixels
 returns c =
-    let a = c.before.before.before.before.args in
+    let a = c.args in
     let u = unpack-bad ByteOffset a.kind a.count a.octets.now a.out.now
-    c.before.before.before.before.requires (sym c.before.before.validate.ensures
-    ∙ not-true _ c.before.if-not-validate.true) in
+    c.requires (sym c.validate.ensures
+    ∙ c.if-not-validate.true) in
     (c.refused.ensures ∙ u.0, u.1)
 
 returns-2 : tie.Need-returns-then-out-count
 unfolding Unpacked unpack_pixels
 returns-2 c =
-    let a = c.before.before.before.before.before.args in
+    let a = c.args in
     let u = unpack-no-room ByteOffset a.kind a.count a.octets.now a.out.now
-    c.before.before.before.before.before.requires (sym c.before.before.before.validate.ensures
-    ∙ not-false _ c.before.before.if-not-validate.false) c.before.if-out-count.true in
+    c.requires (sym c.validate.ensures
+    ∙ c.if-not-validate.false) c.if-out-count.true in
     (c.refused-then-out-count.ensures ∙ u.0, u.1)
 
 fill-requires : tie.Need-fill-requires
-fill-requires c κs = (sym c.before.before.before.validate.ensures ∙ not-false _ c.before.before.if-not-validate.false, c.before.if-out-count.false)
+fill-requires c κs = (sym c.validate.ensures ∙ c.if-not-validate.false, c.if-out-count.false)
 
 returns-3 : tie.Need-returns
 unfolding Unpacked unpack_pixels
 returns-3 c =
-    let a = c.before.before.before.before.before.before.before.args in
+    let a = c.args in
     unpack-done ByteOffset a.kind a.count a.octets.now a.out.now _
-    c.before.before.before.before.before.before.before.requires
-    (sym c.before.before.before.before.before.validate.ensures
-    ∙ not-false _ c.before.before.before.before.if-not-validate.false) c.before.before.before.if-out-count.false
-    c.before.fill.ensures
+    c.requires
+    (sym c.validate.ensures
+    ∙ c.if-not-validate.false) c.if-out-count.false
+    c.fill.ensures
 
 pub unpack_byte_offset_spec : {M : Type 1} → statement M
 unpack_byte_offset_spec =

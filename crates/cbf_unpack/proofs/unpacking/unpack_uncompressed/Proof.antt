@@ -11,43 +11,43 @@ use Rattle.cbf_unpack.proofs.unpacking.unpack_uncompressed.Statement.{statement}
 use Rattle.cbf_unpack.proofs.unpacking.unpack_uncompressed.Tie as tie
 
 mul-size : tie.Need-overflow_mul-size
-mul-size c = record { fits = omega (arith, mul-le-mul_right c.before.before.args.count c.octets_per.ensures.1) }
+mul-size c = record { fits = omega (arith, mul-le-mul_right c.args.count c.octets_per.ensures.1) }
 
 returns : tie.Need-returns-then-octets-size
 unfolding Unpacked unpack_pixels
 returns c =
-    let a = c.before.before.before.before.args in
+    let a = c.args in
     let u = unpack-bad Uncompressed a.kind a.count a.octets.now a.out.now
-    c.before.before.before.before.requires (uncompressed-none a.kind a.count _ a.octets.now
-    c.before.before.octets_per.ensures.0 c.before.if-octets-size.true) in
+    c.requires (uncompressed-none a.kind a.count _ a.octets.now
+    c.octets_per.ensures.0 c.if-octets-size.true) in
     (c.refused.ensures ∙ u.0, u.1)
 
 returns-2 : tie.Need-returns-then-out-count
 unfolding Unpacked unpack_pixels
 returns-2 c =
-    let a = c.before.before.before.before.before.args in
+    let a = c.args in
     let u = unpack-no-room Uncompressed a.kind a.count a.octets.now a.out.now
-    c.before.before.before.before.before.requires (uncompressed-some a.kind a.count _ a.octets.now
-    c.before.before.before.octets_per.ensures.0 c.before.before.if-octets-size.false) c.before.if-out-count.true in
+    c.requires (uncompressed-some a.kind a.count _ a.octets.now
+    c.octets_per.ensures.0 c.if-octets-size.false) c.if-out-count.true in
     (c.refused-then-out-count.ensures ∙ u.0, u.1)
 
 fill-requires : tie.Need-fill-requires
 fill-requires c κs = (
-  c.before.before.if-octets-size.false
-      ∙ ap (λ (k : ℕ). k * c.before.before.before.before.before.args.count)
-      c.before.before.before.octets_per.ensures.0,
-  c.before.if-out-count.false,
+  c.if-octets-size.false
+      ∙ ap (λ (k : ℕ). k * c.args.count)
+      c.octets_per.ensures.0,
+  c.if-out-count.false,
 )
 
 returns-3 : tie.Need-returns
 unfolding Unpacked unpack_pixels
 returns-3 c =
-    let a = c.before.before.before.before.before.before.before.args in
+    let a = c.args in
     unpack-done Uncompressed a.kind a.count a.octets.now a.out.now _
-    c.before.before.before.before.before.before.before.requires (uncompressed-some a.kind a.count _
-    a.octets.now c.before.before.before.before.before.octets_per.ensures.0
-    c.before.before.before.before.if-octets-size.false) c.before.before.before.if-out-count.false
-    c.before.fill.ensures
+    c.requires (uncompressed-some a.kind a.count _
+    a.octets.now c.octets_per.ensures.0
+    c.if-octets-size.false) c.if-out-count.false
+    c.fill.ensures
 
 pub unpack_uncompressed_spec : {M : Type 1} → statement M
 unpack_uncompressed_spec =

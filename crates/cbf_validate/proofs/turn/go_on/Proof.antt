@@ -26,7 +26,7 @@ returns-6 : tie.Need-returns
 returns-6 c e =
     let s = c.before.before.before.before.before.before.before in
     let h = leb-true 480 (s.args.len - s.args.s.next) e in
-    (c.before.before.before.before.before.if-s-eq0.false, omega (arith, c.before.before.before.if-left-k.false), omega (arith, h, s.requires.1))
+    (c.if-s-eq0.false, omega (arith, c.if-left-k.false), omega (arith, h, s.requires.1))
 
 pub go_on_spec : {M : Type 1} → statement M
 go_on_spec =

@@ -21,7 +21,7 @@ returns-4 c = λ e. never e
 
 returns-5 : tie.Need-returns
 returns-5 c e =
-    let a = c.before.before.before.before.args in
+    let a = c.args in
     let h = leb-true 192 (a.len - a.i) e in
     (omega arith, omega arith, omega (arith, h), omega arith)
 

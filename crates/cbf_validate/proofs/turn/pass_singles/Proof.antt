@@ -25,21 +25,21 @@ decreases-loop octets i biased top left way s₀ k₀ again₀ s k again = left 
 
 loop-holds : tie.Need-loop-again-init invariant-loop decreases-loop
 loop-holds c =
-    let p = c.before.requires in
+    let p = c.requires in
     (omega arith, p.2, λ h. let y : ⊥ = omega arith in absurd y, λ _. (p.3, inl (refl, refl, refl)), λ e. never (sym e))
 
 -- what is known of the pixels before a part
-ready : (c : tie.In-loop-again invariant-loop decreases-loop) → Between c.before.before.before.args.top c.before.loop-again.s.biased
-    × Passes c.before.before.before.args.top c.before.before.before.args.octets.now c.before.before.before.args.biased
-    c.before.before.before.args.i c.before.loop-again.k c.before.loop-again.s.biased c.before.loop-again.s.next
-    × ((tail : List ℕ) → Enough c.before.before.before.args.octets.now tail c.before.before.before.args.i 480
-    → Enough c.before.before.before.args.octets.now tail c.before.loop-again.s.next 480)
+ready : (c : tie.In-loop-again invariant-loop decreases-loop) → Between c.args.top c.loop-again.s.biased
+    × Passes c.args.top c.args.octets.now c.args.biased
+    c.args.i c.loop-again.k c.loop-again.s.biased c.loop-again.s.next
+    × ((tail : List ℕ) → Enough c.args.octets.now tail c.args.i 480
+    → Enough c.args.octets.now tail c.loop-again.s.next 480)
 ready c =
-    let a = c.before.before.before.args in
-    let l = c.before.loop-again in
+    let a = c.args in
+    let l = c.loop-again in
     ⊎_elim
     (λ w. (
-      subst (Between a.top) (sym w.1) c.before.before.before.requires.1,
+      subst (Between a.top) (sym w.1) c.requires.1,
       subst (λ (n : ℕ). Passes a.top a.octets.now a.biased a.i n l.s.biased l.s.next) (sym w.0)
           (subst (λ (b : ℕ). Passes a.top a.octets.now a.biased a.i 0 b l.s.next) (sym w.1)
           (subst (Passes a.top a.octets.now a.biased a.i 0 a.biased) (sym w.2) (passes_none a.top a.octets.now a.biased a.i))),
@@ -50,30 +50,30 @@ ready c =
 
 pass-few-requires : tie.Need-pass_few-s-requires invariant-loop decreases-loop
 pass-few-requires c κs =
-    (c.before.before.before.before.requires.0, (ready c.before).0, c.before.before.loop-again.invariant.1, c.part-n.ensures.1)
+    (c.requires.0, (ready c.before).0, c.loop-again.invariant.1, c.part-n.ensures.1)
 
 add-k : tie.Need-overflow_add-k invariant-loop decreases-loop
-add-k c = omega (arith, c.before.before.before.loop-again.invariant.0, c.before.part-n.ensures.0, c.before.before.before.before.before.ranges.left)
+add-k c = omega (arith, c.loop-again.invariant.0, c.part-n.ensures.0, c.ranges.left)
 
 go-on-requires : tie.Need-go_on-again-requires invariant-loop decreases-loop
-go-on-requires c κs = (c.before.before.before.before.before.requires.2, c.pass_few-s.ensures.inside)
+go-on-requires c κs = (c.requires.2, c.pass_few-s.ensures.inside)
 
 loop-less : tie.Need-loop-again-smaller invariant-loop decreases-loop
 loop-less c =
-    let l = c.before.before.before.before.loop-again in
-    let m = (l.invariant.3 c.before.before.before.loop-again-test.true).0 in
-    let n = c.before.before.part-n.ensures in
+    let l = c.loop-again in
+    let m = (l.invariant.3 c.loop-again-test.true).0 in
+    let n = c.part-n.ensures in
     omega (arith, n.0, n.2 (omega arith))
 
 loop-again : tie.Need-loop-again-preserved invariant-loop decreases-loop
 loop-again c =
-    let a = c.before.before.before.before.before.before.args in
-    let l = c.before.before.before.before.loop-again in
-    let m = (l.invariant.3 c.before.before.before.loop-again-test.true).0 in
-    let n = c.before.before.part-n in
+    let a = c.args in
+    let l = c.loop-again in
+    let m = (l.invariant.3 c.loop-again-test.true).0 in
+    let n = c.part-n in
     let some = n.ensures.2 (omega arith) in
-    let P = c.before.pass_few-s.ensures in
-    let s = c.before.pass_few-s.result in
+    let P = c.pass_few-s.ensures in
+    let s = c.pass_few-s.result in
     let r = ready c.before.before.before in
     let G = c.go_on-again.ensures in (
       omega (arith, n.ensures.0),
@@ -85,13 +85,13 @@ loop-again c =
 
 returns : tie.Need-returns invariant-loop decreases-loop
 returns c =
-    let l = c.before.before.loop-again in
-    let h = l.invariant.4 c.before.loop-again-test.false in
+    let l = c.loop-again in
+    let h = l.invariant.4 c.loop-again-test.false in
     record { some = h; few = l.invariant.0; passed = l.invariant.2 h }
 
 pub pass_singles_spec : {M : Type 1} → statement M
 pass_singles_spec =
     tie.close
     (tie.spec
-    invariant-loop decreases-loop loop-holds (λ c. c.before.loop-again.invariant.0) (λ c κs. search rules) pass-few-requires add-k
+    invariant-loop decreases-loop loop-holds (λ c. c.loop-again.invariant.0) (λ c κs. search rules) pass-few-requires add-k
     go-on-requires loop-less loop-again (λ c κs. search rules) returns)

@@ -12,16 +12,16 @@ use Rattle.cbf_validate.proofs.validate.biased_of.Tie as tie
 
 sum-requires : tie.Need-sum-requires
 sum-requires c κs =
-    let a = c.before.args in
+    let a = c.args in
     let h = zero-small a.kind in
     let e = c.biased_zero.ensures in
-    (omega (arith, h.0), omega (arith, h.1), held_small a.pixel (omega (arith, abs-le a.pixel (within-small a.kind a.pixel c.before.requires))))
+    (omega (arith, h.0), omega (arith, h.1), held_small a.pixel (omega (arith, abs-le a.pixel (within-small a.kind a.pixel c.requires))))
 
 returns : tie.Need-returns
 returns c =
-    let a = c.before.before.args in
-    let w = c.before.before.requires in
-    let zero = c.before.biased_zero in
+    let a = c.args in
+    let w = c.requires in
+    let zero = c.biased_zero in
     let r = c.sum.result in
     let e = c.sum.ensures ∙ ap (λ (z : ℤ). pos zero.result +ℤ z) (within_held a.kind a.pixel w)
     ∙ ap (λ (n : ℕ). pos n +ℤ a.pixel) zero.ensures in

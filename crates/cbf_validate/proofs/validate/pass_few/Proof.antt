@@ -9,10 +9,10 @@ use Rattle.cbf_validate.proofs.validate.pass_few.Tie as tie
 
 returns-3 : tie.Need-returns
 returns-3 c =
-    let a = c.before.before.before.before.args in
-    let p = c.before.before.before.before.requires in
+    let a = c.args in
+    let p = c.requires in
     let r = c.pass_32.result in
-    let e : 32 ≡ a.n = omega (arith, p.3, c.before.before.if-n-lt32.false) in
+    let e : 32 ≡ a.n = omega (arith, p.3, c.if-n-lt32.false) in
     subst (λ (n : ℕ). Passed a.top a.octets.now a.biased a.i n r.biased r.next) e c.pass_32.ensures
 
 pub pass_few_spec : {M : Type 1} → statement M

@@ -18,21 +18,21 @@ decreases-loop octets i n biased top last₀ j₀ last j = n - j
 
 loop-holds : tie.Need-loop-j-init invariant-loop decreases-loop
 loop-holds c =
-    let a = c.before.args in
+    let a = c.args in
     let e : a.i ≡ a.i + 0 = omega arith in
     let start = subst (Passes a.top a.octets.now a.biased a.i 0 a.biased) e (passes_none a.top a.octets.now a.biased a.i) in
-    (omega arith, refl, c.before.requires.1, start)
+    (omega arith, refl, c.requires.1, start)
 
 sub-at-most-1024 : tie.Need-overflow_sub-n invariant-loop decreases-loop
-sub-at-most-1024 c = c.before.loop-j.invariant.0
+sub-at-most-1024 c = c.loop-j.invariant.0
 
 base-of-requires : tie.Need-base_of-base-requires invariant-loop decreases-loop
 base-of-requires c κs =
-    let T = c.before.before.before.before.requires.0 in
-    (T, c.before.before.loop-j.invariant.2, omega arith, omega (arith, T.size, T.large))
+    let T = c.requires.0 in
+    (T, c.loop-j.invariant.2, omega arith, omega (arith, T.size, T.large))
 
 add-near : tie.Need-overflow_add-i invariant-loop decreases-loop
-add-near c = omega (arith, c.before.before.before.before.before.requires.2, c.before.before.before.loop-j.invariant.0)
+add-near c = omega (arith, c.requires.2, c.loop-j.invariant.0)
 
 sub-near : tie.Need-overflow_sub-last invariant-loop decreases-loop
 sub-near c = c.base_of-base.ensures.low
@@ -54,12 +54,12 @@ module _ (n j m : ℕ) (whole : n % 32 ≡ 0) (done : j % 32 ≡ 0) (more : j < 
 
 near-requires : tie.Need-near-above-requires invariant-loop decreases-loop
 near-requires c κs =
-    let a = c.before.before.before.before.before.args in
-    let p = c.before.before.before.before.before.requires in
-    let l = c.before.before.before.loop-j in
-    let m = c.before.at_most_1024-m.result in
-    let E = c.before.at_most_1024-m.ensures in
-    let t = c.before.before.loop-j-test.true in
+    let a = c.args in
+    let p = c.requires in
+    let l = c.loop-j in
+    let m = c.at_most_1024-m.result in
+    let E = c.at_most_1024-m.ensures in
+    let t = c.loop-j-test.true in
     let b = blocks a.n l.j m p.4 l.invariant.1 t E in
     let s = some a.n l.j m p.4 l.invariant.1 t E in
     let h = inside a.n l.j m p.4 l.invariant.1 t E in
@@ -72,49 +72,49 @@ returns c = λ z. absurd (z refl)
 
 add-last : tie.Need-overflow_add-last invariant-loop decreases-loop
 add-last c =
-    let a = c.before.before.before.before.before.before.before.before.args in
-    let small = top_small a.top c.before.before.before.before.before.before.before.before.requires.0 in
-    let g = c.before.before.before.base_of-base.ensures.greatest in
+    let a = c.args in
+    let small = top_small a.top c.requires.0 in
+    let g = c.base_of-base.ensures.greatest in
     omega (arith, c.wide.ensures.1)
 
 add-j : tie.Need-overflow_add-j invariant-loop decreases-loop
 add-j c =
-    let p = c.before.before.before.before.before.before.before.before.requires in
-    let E = c.before.before.before.before.at_most_1024-m.ensures in
-    omega (arith, E.0, p.2, c.before.before.before.before.before.before.loop-j.invariant.0)
+    let p = c.requires in
+    let E = c.at_most_1024-m.ensures in
+    omega (arith, E.0, p.2, c.loop-j.invariant.0)
 
 loop-less : tie.Need-loop-j-smaller invariant-loop decreases-loop
 loop-less c =
-    let a = c.before.before.before.before.before.before.before.before.args in
-    let p = c.before.before.before.before.before.before.before.before.requires in
-    let l = c.before.before.before.before.before.before.loop-j in
-    let t = c.before.before.before.before.before.loop-j-test.true in
-    let m = c.before.before.before.before.at_most_1024-m in
+    let a = c.args in
+    let p = c.requires in
+    let l = c.loop-j in
+    let t = c.loop-j-test.true in
+    let m = c.at_most_1024-m in
     let s = some a.n l.j m.result p.4 l.invariant.1 t m.ensures in
     omega arith
 
 loop-again : tie.Need-loop-j-preserved invariant-loop decreases-loop
 unfolding Stays
 loop-again c =
-    let a = c.before.before.before.before.before.before.before.before.args in
-    let p = c.before.before.before.before.before.before.before.before.requires in
-    let l = c.before.before.before.before.before.before.loop-j in
-    let t = c.before.before.before.before.before.loop-j-test.true in
-    let m = c.before.before.before.before.at_most_1024-m.result in
-    let E = c.before.before.before.before.at_most_1024-m.ensures in
-    let base = c.before.before.before.base_of-base.result in
-    let B = c.before.before.before.base_of-base.ensures in
+    let a = c.args in
+    let p = c.requires in
+    let l = c.loop-j in
+    let t = c.loop-j-test.true in
+    let m = c.at_most_1024-m.result in
+    let E = c.at_most_1024-m.ensures in
+    let base = c.base_of-base.result in
+    let B = c.base_of-base.ensures in
     let b = blocks a.n l.j m p.4 l.invariant.1 t E in
     let h = inside a.n l.j m p.4 l.invariant.1 t E in
-    let r = c.before.before.near-above.result in
-    let low : r < 128 = omega (arith, c.before.if-above-gt127.false) in
+    let r = c.near-above.result in
+    let low : r < 128 = omega (arith, c.if-above-gt127.false) in
     let least = B.least in
     let greatest : base + 127 ≤ a.top = omega (arith, B.greatest) in
     let under = B.low in
     let w = c.wide.ensures.0 in
     let from : base + (l.last - base) ≡ l.last = omega arith in
     let e : a.i + l.j + m ≡ a.i + (l.j + m) = omega arith in
-    let N = c.before.before.near-above.ensures low a.top base least greatest in (
+    let N = c.near-above.ensures low a.top base least greatest in (
       h,
       omega (arith, l.invariant.1),
       (omega arith, omega arith),
@@ -126,8 +126,8 @@ loop-again c =
 
 returns-2 : tie.Need-returns invariant-loop decreases-loop
 returns-2 c = λ _.
-    let a = c.before.before.before.args in
-    let l = c.before.loop-j in
+    let a = c.args in
+    let l = c.loop-j in
     let e : l.j ≡ a.n = omega (arith, l.invariant.0, c.loop-j-test.false) in
     (l.invariant.2, subst (λ (k : ℕ). Passes a.top a.octets.now a.biased a.i k l.last (a.i + k)) e l.invariant.3)
 

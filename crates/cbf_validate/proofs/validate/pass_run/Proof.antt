@@ -21,15 +21,15 @@ decreases-loop octets i n biased top s₀ j₀ s j = n - j
 
 loop-holds : tie.Need-loop-j-init invariant-loop decreases-loop
 loop-holds c =
-    let a = c.before.args in
-    let p = c.before.requires in
+    let a = c.args in
+    let p = c.requires in
     (omega arith, refl, omega (arith, p.1.0, p.1.1), omega arith, summed-start a.top a.octets.now a.biased a.i p.1)
 
 add-block-requires : tie.Need-add_block-s-requires invariant-loop decreases-loop
 add-block-requires c κs =
-    let a = c.before.before.before.args in
-    let p = c.before.before.before.requires in
-    let l = c.before.loop-j in
+    let a = c.args in
+    let p = c.requires in
+    let l = c.loop-j in
     let I = l.invariant in
     let t = c.loop-j-test.true in
     let G = (I.4.good I.2).0 in
@@ -42,42 +42,42 @@ add-block-requires c κs =
 
 returns : tie.Need-returns-then-top-s invariant-loop decreases-loop
 returns c =
-    let a = c.before.before.before.before.before.before.args in
-    let p = c.before.before.before.before.before.before.requires in
-    let l = c.before.before.before.before.loop-j in
+    let a = c.args in
+    let p = c.requires in
+    let l = c.loop-j in
     let I = l.invariant in
-    let t = c.before.before.before.loop-j-test.true in
-    let r = c.before.before.add_block-s.result in
-    let X = c.before.before.add_block-s.ensures.0.sums a.top a.biased a.i l.j p.0 I.4 in
+    let t = c.loop-j-test.true in
+    let r = c.add_block-s.result in
+    let X = c.add_block-s.ensures.0.sums a.top a.biased a.i l.j p.0 I.4 in
     summed-not a.top a.octets.now a.biased a.i (l.j + 32) r.biased r.all r.next a.n
     (a.i + a.n) X c.if-top-s.true (omega (arith, p.4, I.1)) p.2
 
 add-j : tie.Need-overflow_add-j invariant-loop decreases-loop
 add-j c =
-    let I = c.before.before.before.before.loop-j.invariant in
-    let p = c.before.before.before.before.before.before.requires in
-    let t = c.before.before.before.loop-j-test.true in
+    let I = c.loop-j.invariant in
+    let p = c.requires in
+    let t = c.loop-j-test.true in
     omega (arith, p.2, p.4, I.1)
 
 loop-less : tie.Need-loop-j-smaller invariant-loop decreases-loop
-loop-less c = omega (arith, c.before.before.before.loop-j-test.true)
+loop-less c = omega (arith, c.loop-j-test.true)
 
 loop-again : tie.Need-loop-j-preserved invariant-loop decreases-loop
 loop-again c =
-    let a = c.before.before.before.before.before.before.args in
-    let p = c.before.before.before.before.before.before.requires in
-    let l = c.before.before.before.before.loop-j in
+    let a = c.args in
+    let p = c.requires in
+    let l = c.loop-j in
     let I = l.invariant in
-    let t = c.before.before.before.loop-j-test.true in
-    let r = c.before.before.add_block-s.result in
-    let X = c.before.before.add_block-s.ensures.0.sums a.top a.biased a.i l.j p.0 I.4 in
-    (omega (arith, p.4, I.1), omega (arith, I.1), c.if-top-s.false, omega (arith, I.3, c.before.before.add_block-s.ensures.1), X)
+    let t = c.loop-j-test.true in
+    let r = c.add_block-s.result in
+    let X = c.add_block-s.ensures.0.sums a.top a.biased a.i l.j p.0 I.4 in
+    (omega (arith, p.4, I.1), omega (arith, I.1), c.if-top-s.false, omega (arith, I.3, c.add_block-s.ensures.1), X)
 
 returns-2 : tie.Need-returns invariant-loop decreases-loop
 returns-2 c =
-    let a = c.before.before.before.args in
-    let p = c.before.before.before.requires in
-    let l = c.before.loop-j in
+    let a = c.args in
+    let p = c.requires in
+    let l = c.loop-j in
     let I = l.invariant in
     let e : l.j ≡ a.n = omega (arith, I.0, c.loop-j-test.false) in
     let f : l.s.next ≡ a.i + a.n = omega (arith, I.3) in

@@ -25,10 +25,10 @@ add-result c = record { sfits = subst (λ (z : ℤ). mag z < 2 ^ 63) (sym (sum_i
 cast-result-2 : tie.Need-overflow_cast-result-2
 cast-result-2 c =
     let l = (sum-at c).small in
-    subst (λ (z : ℤ). T (non_neg z) × Fits w64 (nat_abs z)) (sym (to_z-of_z (add-result c) ∙ sum_is c)) (tt, record { fits = omega arith })
+    subst (λ (z : ℤ). T (non_neg z) × Fits w64 (nat_abs z)) (sym (to_z-of_z {w = w64} (add-result c) ∙ sum_is c)) (tt, record { fits = omega arith })
 
 returns : tie.Need-returns
-returns c = ap (λ (z : ℤ). pos (nat_abs z)) (to_z-of_z (add-result c) ∙ sum_is c) ∙ (sum-at c).exact
+returns c = ap (λ (z : ℤ). pos (nat_abs z)) (to_z-of_z {w = w64} (add-result c) ∙ sum_is c) ∙ (sum-at c).exact
 
 pub sum_spec : {M : Type 1} → statement M
 sum_spec = tie.close (tie.spec (λ c. search rules) add-result cast-result-2 returns)

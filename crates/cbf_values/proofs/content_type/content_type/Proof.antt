@@ -16,27 +16,26 @@ use Rattle.cbf_values.proofs.content_type.content_type.Statement.{statement}
 use Rattle.cbf_values.proofs.content_type.content_type.Tie as tie
 
 -- the first part ends at p
-ends : (c : tie.In-At) → PartAt c.before.before.before.before.before.args.file.now
-    c.before.before.before.before.before.args.from c.before.before.before.before.before.args.to
-    (At c.before.first-1.given.0.0)
-ends c = subst (λ (r : PartEnd). PartAt c.before.before.before.before.before.args.file.now
-    c.before.before.before.before.before.args.from c.before.before.before.before.before.args.to r)
-    c.before.first-1.given.1 c.before.before.before.part_end-first.ensures
+ends : (c : tie.In-At) → PartAt c.args.file.now
+    c.args.from c.args.to
+    (At c.in-At.p)
+ends c = subst (λ (r : PartEnd). PartAt c.args.file.now
+    c.args.from c.args.to r)
+    c.in-At.is c.part_end-first.ensures
 
 later-parts-requires : tie.Need-later_parts-requires
 later-parts-requires c κs = ((ends c).2, omega arith)
 
 returns : tie.Need-returns-in-Unclosed
 returns c =
-    let a = c.before.before.before.before.args in
-    let e = subst (λ (r : PartEnd). PartAt a.file.now a.from a.to r) c.enum_told-1.given.1 c.before.before.part_end-first.ensures in
+    let a = c.args in
+    let e = subst (λ (r : PartEnd). PartAt a.file.now a.from a.to r) c.in-Unclosed.is c.part_end-first.ensures in
     sym (ap (λ (v : Option (List (List ℕ))). whole_of (content_type v)) e)
 
 returns-2 : tie.Need-returns-in-At
 returns-2 c =
-    let a = c.before.before.before.before.before.before.args in
+    let a = c.args in
     let f = a.file.now in
-    let p = c.before.before.first-1.given.0.0 in
     let e = ends c.before in
     c.later_parts.ensures
     ∙ ap whole_of (later-start f p a.to ∙ sym (first-free (joined (slice a.from p f)) (following f p a.to)) ∙ sym (ap content_type e.0))

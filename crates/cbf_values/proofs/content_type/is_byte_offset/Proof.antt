@@ -19,24 +19,23 @@ word = bytes "x-cbf_byte_offset"
 
 is-value-requires : tie.Need-is_value-requires
 is-value-requires c κs =
-    let u = rw c.before.before.inner-1.given.1 at c.before.before.before.before.unquoted-inner.ensures in
-    let t = c.before.before.before.before.before.trimmed-inside.ensures in
+    let u = rw c.in-Text.is at c.unquoted-inner.ensures in
+    let t = c.trimmed-inside.ensures in
     (u.2, omega (arith, u.3, t.1.inside))
 
 returns : tie.Need-returns-in-Bad
 returns c =
-    let u = rw c.enum_told-1.given.1 at c.before.before.unquoted-inner.ensures in
-    let t = c.before.before.before.trimmed-inside.ensures in
+    let u = rw c.in-Bad.is at c.unquoted-inner.ensures in
+    let t = c.trimmed-inside.ensures in
     sym (ap (λ (v : Option (List ℕ)). some_of (quoted_one_of 1 (word ∷ []) v)) (ap unquote (sym t.0) ∙ u))
 
 returns-2 : tie.Need-returns-in-Text
 returns-2 c =
-    let i = c.before.before.before.inner-1.given in
-    let u = rw i.1 at c.before.before.before.before.before.unquoted-inner.ensures in
-    let t = c.before.before.before.before.before.before.trimmed-inside.ensures in
+    let u = rw c.in-Text.is at c.unquoted-inner.ensures in
+    let t = c.trimmed-inside.ensures in
     c.is_value.ensures
-    ∙ one_word word (joined (slice i.0.0 i.0.1.0
-    c.before.before.before.before.before.before.before.before.args.file.now)) _
+    ∙ one_word word (joined (slice c.in-Text.a c.in-Text.b
+    c.args.file.now)) _
     (ap unquote (sym t.0) ∙ u.0)
 
 pub is_byte_offset_spec : {M : Type 1} → statement M

@@ -24,28 +24,28 @@ abbrev decreases-loop : tie.decreases-loop-at
 decreases-loop file from to found₀ at₀ found at = to - at
 
 loop-holds : tie.Need-loop-at-init invariant-loop decreases-loop
-loop-holds c = (omega arith, omega arith, later-start c.before.args.file.now c.before.args.from c.before.args.to)
+loop-holds c = (omega arith, omega arith, later-start c.args.file.now c.args.from c.args.to)
 
 part-end-requires : tie.Need-part_end-end-requires invariant-loop decreases-loop
 part-end-requires c κs = (omega arith, omega arith)
 
 returns : tie.Need-returns-in-Unclosed invariant-loop decreases-loop
 returns c =
-    let a = c.before.before.before.before.before.before.args in
-    let l = c.before.before.before.before.loop-at in
+    let a = c.args in
+    let l = c.loop-at in
     let f = a.file.now in
-    let e = subst (λ (r : PartEnd). PartAt f (l.at + 1) a.to r) c.enum_told-1.given.1 c.before.before.part_end-end.ensures in
-    sym (ap whole_of (l.invariant.2 ∙ ap (said_by l.found) (following-here f l.at a.to c.before.before.before.loop-at-test.true ∙ e)))
+    let e = subst (λ (r : PartEnd). PartAt f (l.at + 1) a.to r) c.in-Unclosed.is c.part_end-end.ensures in
+    sym (ap whole_of (l.invariant.2 ∙ ap (said_by l.found) (following-here f l.at a.to c.loop-at-test.true ∙ e)))
 
 -- the part that ends at p
 ends : (c : tie.In-At invariant-loop decreases-loop)
-    → PartAt c.before.before.before.before.before.before.before.args.file.now
-    (c.before.before.before.before.before.loop-at.at + 1)
-    c.before.before.before.before.before.before.before.args.to (At c.before.end-1.given.0.0)
-ends c = subst (λ (r : PartEnd). PartAt c.before.before.before.before.before.before.before.args.file.now
-    (c.before.before.before.before.before.loop-at.at + 1)
-    c.before.before.before.before.before.before.before.args.to r) c.before.end-1.given.1
-    c.before.before.before.part_end-end.ensures
+    → PartAt c.args.file.now
+    (c.loop-at.at + 1)
+    c.args.to (At c.in-At.p)
+ends c = subst (λ (r : PartEnd). PartAt c.args.file.now
+    (c.loop-at.at + 1)
+    c.args.to r) c.in-At.is
+    c.part_end-end.ensures
 
 with-part-requires : tie.Need-with_part-found-requires invariant-loop decreases-loop
 with-part-requires c κs = let e = ends c in (e.1, omega (arith, e.2))
@@ -55,36 +55,35 @@ loop-less c = let e = ends c.before in omega (arith, e.1, e.2)
 
 loop-again : tie.Need-loop-at-preserved invariant-loop decreases-loop
 loop-again c =
-    let a = c.before.before.before.before.before.before.before.before.args in
-    let l = c.before.before.before.before.before.before.loop-at in
+    let a = c.args in
+    let l = c.loop-at in
     let f = a.file.now in
-    let p = c.before.before.end-1.given.0.0 in
     let e = ends c.before in (
       omega (arith, e.1),
       e.2,
       l.invariant.2
-          ∙ ap (said_by l.found) (following-here f l.at a.to c.before.before.before.before.before.loop-at-test.true ∙ e.0)
+          ∙ ap (said_by l.found) (following-here f l.at a.to c.loop-at-test.true ∙ e.0)
           ∙ said-next l.found (joined (slice (l.at + 1) p f)) (following f p a.to)
           ∙ ap (λ (d : Conversion). said_by d (following f p a.to)) (sym c.with_part-found.ensures),
     )
 
 -- no part is left
-over : (c : tie.After-loop-at invariant-loop decreases-loop) → later_parts c.before.before.before.args.file.now
-    c.before.before.before.args.from c.before.before.before.args.to ≡ said_by c.before.loop-at.found
+over : (c : tie.After-loop-at invariant-loop decreases-loop) → later_parts c.args.file.now
+    c.args.from c.args.to ≡ said_by c.loop-at.found
     (some [])
 over c =
-    let a = c.before.before.before.args in
-    let l = c.before.loop-at in
+    let a = c.args in
+    let l = c.loop-at in
     l.invariant.2 ∙ ap (said_by l.found) (following-end a.file.now l.at a.to (omega (arith, l.invariant.1)))
 
 returns-2 : tie.Need-returns-in-Unseen invariant-loop decreases-loop
-returns-2 c = sym (ap whole_of (over c.before.before ∙ ap (λ (d : Conversion). said_by d (some [])) c.enum_told-in-Unseen-1.given.1))
+returns-2 c = sym (ap whole_of (over c.before.before ∙ ap (λ (d : Conversion). said_by d (some [])) c.in-Unseen.is))
 
 returns-3 : tie.Need-returns-in-Seen invariant-loop decreases-loop
-returns-3 c = sym (ap whole_of (over c.before.before ∙ ap (λ (d : Conversion). said_by d (some [])) c.enum_told-in-Seen-1.given.1))
+returns-3 c = sym (ap whole_of (over c.before.before ∙ ap (λ (d : Conversion). said_by d (some [])) c.in-Seen.is))
 
 returns-4 : tie.Need-returns-in-Wrong invariant-loop decreases-loop
-returns-4 c = sym (ap whole_of (over c.before.before ∙ ap (λ (d : Conversion). said_by d (some [])) c.enum_told-in-Wrong-1.given.1))
+returns-4 c = sym (ap whole_of (over c.before.before ∙ ap (λ (d : Conversion). said_by d (some [])) c.in-Wrong.is))
 
 pub later_parts_spec : {M : Type 1} → statement M
 later_parts_spec =

@@ -25,44 +25,44 @@ loop-holds c = (omega arith, omega arith, begun-start c.args.file.now c.args.at)
 
 returns : tie.Need-returns-then-not-quoted invariant-loop decreases-loop
 returns c =
-    let a = c.before.before.before.before.before.before.args in
-    let l = c.before.before.before.before.before.loop-i in
+    let a = c.args in
+    let l = c.loop-i in
     let closed : l.quoted ≡ false =
-    ⊎_elim (λ w. absurd (omega (arith, w.0.taken, c.before.if-b-eq59.true))) (λ w. sym w.1 ∙ not-true _ c.if-not-quoted.true) c.before.before.if-b-eq34.branch in (
+    ⊎_elim (λ w. absurd (omega (arith, w.0.taken, c.if-b-eq59.true))) (λ w. sym w.1 ∙ c.if-not-quoted.true) c.if-b-eq34.branch-raw in (
       part-ends a.file.now a.at l.i l.quoted l.invariant.0 l.invariant.2 a.to (omega arith) (omega arith)
-          closed c.before.if-b-eq59.true,
+          closed c.if-b-eq59.true,
       l.invariant.0,
       l.invariant.1,
     )
 
 loop-again : tie.Need-loop-i-preserved invariant-loop decreases-loop
 loop-again c =
-    let a = c.before.before.before.before.before.args in
-    let l = c.before.before.before.before.loop-i in
+    let a = c.args in
+    let l = c.loop-i in
     let f = a.file.now in
     let n = joined (slice a.at (l.i + 1) f) in
     let fits : l.i < length f = omega arith in
-    let next : Begun c.before.if-b-eq34.quoted n =
+    let next : Begun c.if-b-eq34.quoted n =
     ⊎_elim
     (λ w. subst (λ (q : Bool). Begun q n) (sym w.1) (begun-quote f a.at l.i l.quoted l.invariant.0 l.invariant.2 fits w.0.taken))
     (λ w. subst (λ (q : Bool). Begun q n) (sym w.1)
     (⊎_elim
     (λ v. begun-quoted f a.at l.i l.quoted l.invariant.0 l.invariant.2 fits (sym w.1 ∙ not-false _ v.1.left) v.0.taken)
     (λ v. begun-other f a.at l.i l.quoted l.invariant.0 l.invariant.2 fits w.0.left v.left)
-    c.if-b-eq59.branch))
-    c.before.if-b-eq34.branch in
+    c.if-b-eq59.branch-raw))
+    c.if-b-eq34.branch-raw in
     (omega arith, omega arith, next)
 
 returns-2 : tie.Need-returns-then-quoted invariant-loop decreases-loop
 returns-2 c =
     let s = c.before.before.before in
-    let l = c.before.before.loop-i in
+    let l = c.loop-i in
     part-unclosed s.args.file.now s.args.at l.i l.quoted l.invariant.0 l.invariant.2 s.args.to (omega (arith, l.invariant.1)) c.if-quoted.true
 
 returns-3 : tie.Need-returns invariant-loop decreases-loop
 returns-3 c =
     let s = c.before.before.before in
-    let l = c.before.before.loop-i in (
+    let l = c.loop-i in (
       part-last s.args.file.now s.args.at l.i l.quoted l.invariant.0 l.invariant.2 s.args.to
           (omega (arith, l.invariant.1)) c.if-quoted.false,
       l.invariant.0,

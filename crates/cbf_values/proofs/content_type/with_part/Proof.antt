@@ -21,52 +21,52 @@ part s = joined (slice s.args.from s.args.to s.args.file.now)
 
 returns : tie.Need-returns-then-not-is_value
 returns c =
-    let a = c.before.before.before.before.before.before.args in
-    let m = c.before.before.before.before.equals-middle in
+    let a = c.args in
+    let m = c.equals-middle in
     sym (with-other a.file.now a.from a.to m.result (omega arith) m.ensures a.found _
-    c.before.is_value.result c.before.before.before.trimmed-name.ensures.0 c.before.is_value.ensures
-    (not-true _ c.if-not-is_value.true))
+    c.is_value.result c.trimmed-name.ensures.0 c.is_value.ensures
+    (c.if-not-is_value.true))
 
 -- the part's name is conversions
-named : (c : tie.Else-not-is_value) (d : Conversion) → c.before.before.before.before.before.before.args.found ≡ d
-    → with_part c.before.before.before.before.before.before.args.found
-    (part c.before.before.before.before.before.before)
-    ≡ given d (offset (after 61 (part c.before.before.before.before.before.before)))
+named : (c : tie.Else-not-is_value) (d : Conversion) → c.args.found ≡ d
+    → with_part c.args.found
+    (part c.before.before.before.before.before.before.before)
+    ≡ given d (offset (after 61 (part c.before.before.before.before.before.before.before)))
 named c d e =
-    let a = c.before.before.before.before.before.before.args in
-    let m = c.before.before.before.before.equals-middle in
+    let a = c.args in
+    let m = c.equals-middle in
     with-named a.file.now a.from a.to m.result (omega arith) m.ensures a.found _
-    c.before.is_value.result c.before.before.before.trimmed-name.ensures.0 c.before.is_value.ensures
-    (not-false _ c.if-not-is_value.false)
-    ∙ ap (λ (f : Conversion). given f (offset (after 61 (part c.before.before.before.before.before.before)))) e
+    c.is_value.result c.trimmed-name.ensures.0 c.is_value.ensures
+    (c.if-not-is_value.false)
+    ∙ ap (λ (f : Conversion). given f (offset (after 61 (part c.before.before.before.before.before.before.before)))) e
 
 returns-2 : tie.Need-returns-then-middle-to
 returns-2 c =
-    let a = c.before.before.before.before.before.before.before.before.before.args in
-    let m = c.before.before.before.before.before.before.before.equals-middle in
-    sym (named c.before.before.before Unseen c.before.enum_told-in-Unseen-1.given.1 ∙ given-none a.file.now
+    let a = c.args in
+    let m = c.equals-middle in
+    sym (named c.before.before.before Unseen c.in-Unseen.is ∙ given-none a.file.now
     a.from a.to m.result (omega arith) m.ensures c.if-middle-to.true)
 
 -- and it has a value
 valued : (c : tie.After-is_byte_offset)
-    → with_part c.before.before.before.before.before.before.before.before.before.before.args.found
-    (part c.before.before.before.before.before.before.before.before.before.before)
+    → with_part c.args.found
+    (part c.before.before.before.before.before.before.before.before.before.before.before)
     ≡ cond c.is_byte_offset.result Seen Wrong
 valued c =
-    let a = c.before.before.before.before.before.before.before.before.before.before.args in
-    let m = c.before.before.before.before.before.before.before.before.equals-middle in
-    let h : m.result < a.to = omega (arith, m.ensures.high, c.before.if-middle-to.false) in
-    named c.before.before.before.before Unseen c.before.before.enum_told-in-Unseen-1.given.1
+    let a = c.args in
+    let m = c.equals-middle in
+    let h : m.result < a.to = omega (arith, m.ensures.high, c.if-middle-to.false) in
+    named c.before.before.before.before Unseen c.in-Unseen.is
     ∙ given-value a.file.now a.from a.to m.result (omega arith) m.ensures h c.is_byte_offset.result c.is_byte_offset.ensures
 
 returns-3 : tie.Need-returns-then-is_byte_offset
 returns-3 c = sym (valued c.before ∙ ap (λ (b : Bool). cond b Seen Wrong) c.if-is_byte_offset.true)
 
 returns-4 : tie.Need-returns-in-Seen
-returns-4 c = sym (named c.before.before Seen c.enum_told-1.given.1)
+returns-4 c = sym (named c.before.before Seen c.in-Seen.is)
 
 returns-5 : tie.Need-returns-in-Wrong
-returns-5 c = sym (named c.before.before Wrong c.enum_told-in-Wrong-1.given.1)
+returns-5 c = sym (named c.before.before Wrong c.in-Wrong.is)
 
 returns-6 : tie.Need-returns-else-is_byte_offset
 returns-6 c = sym (valued c.before ∙ ap (λ (b : Bool). cond b Seen Wrong) c.if-is_byte_offset.false)

@@ -15,31 +15,31 @@ filled : (s : tie.Start) → (s.args.from ≡ s.args.to → ⊥) → Filled s
 filled s e = omega (arith, s.requires.order)
 
 returns : tie.Need-returns-then-from-to
-returns c = (unquoted-empty c.before.requires c.if-from-to.true, omega arith, c.before.requires.order, omega arith)
+returns c = (unquoted-empty c.requires c.if-from-to.true, omega arith, c.requires.order, omega arith)
 
 returns-2 : tie.Need-returns-then-file-from-ne34
 returns-2 c =
     let s = c.before.before.before in
-    (unquoted-whole s.requires (filled s c.before.before.if-from-to.false) c.if-file-from-ne34.true, omega arith, s.requires.order, omega arith)
+    (unquoted-whole s.requires (filled s c.if-from-to.false) c.if-file-from-ne34.true, omega arith, s.requires.order, omega arith)
 
 returns-3 : tie.Need-returns-then-to-from-lt2
 returns-3 c =
     let s = c.before.before.before.before in
-    let h : Filled s = filled s c.before.before.before.if-from-to.false in
-    unquoted-one s.requires h c.before.if-file-from-ne34.false (omega (arith, c.if-to-from-lt2.true))
+    let h : Filled s = filled s c.if-from-to.false in
+    unquoted-one s.requires h c.if-file-from-ne34.false (omega (arith, c.if-to-from-lt2.true))
 
 returns-4 : tie.Need-returns-then-file-to-ne34
 returns-4 c =
     let s = c.before.before.before.before.before.before in
-    let h : Filled s = filled s c.before.before.before.before.before.if-from-to.false in
-    unquoted-open s.requires h c.before.before.before.if-file-from-ne34.false (omega (arith, c.before.before.if-to-from-lt2.false)) c.if-file-to-ne34.true
+    let h : Filled s = filled s c.if-from-to.false in
+    unquoted-open s.requires h c.if-file-from-ne34.false (omega (arith, c.if-to-from-lt2.false)) c.if-file-to-ne34.true
 
 returns-5 : tie.Need-returns
 returns-5 c =
     let s = c.before.before.before.before.before.before in
-    let h : Filled s = filled s c.before.before.before.before.before.if-from-to.false in
-    let k : s.args.from + 1 < s.args.to = omega (arith, c.before.before.if-to-from-lt2.false) in
-    (unquoted-inner s.requires h c.before.before.before.if-file-from-ne34.false k c.if-file-to-ne34.false, omega arith, omega arith, omega arith)
+    let h : Filled s = filled s c.if-from-to.false in
+    let k : s.args.from + 1 < s.args.to = omega (arith, c.if-to-from-lt2.false) in
+    (unquoted-inner s.requires h c.if-file-from-ne34.false k c.if-file-to-ne34.false, omega arith, omega arith, omega arith)
 
 pub unquoted_spec : {M : Type 1} → statement M
 unquoted_spec =

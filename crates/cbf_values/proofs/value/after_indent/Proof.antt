@@ -10,7 +10,7 @@ returns : tie.Need-returns-then-file-at-eq10
 returns c =
     let s = c.before.before.before.before.before.before.before in
     indented-two s.args.file.now s.args.to s.requires.1 s.args.at c.after_blanks.result
-    c.before.before.before.before.if-file-at-eq13.true (omega arith) c.before.if-file-at-eq10.true
+    c.if-file-at-eq13.true (omega arith) c.if-file-at-eq10.true
     c.after_blanks.ensures
 
 returns-2 : tie.Need-returns
@@ -18,7 +18,7 @@ returns-2 c =
     let s = c.before.before.before.before in
     let f = s.args.file.now in
     indented-one f s.args.to s.requires.1 s.args.at c.after_blanks-2.result s.requires.2 s.requires.0
-    (λ x l t. ⊎_elim (λ w. w.3.left t) (⊎_elim (λ w. omega (arith, w.1.left)) (λ w. w.left x)) c.before.if-file-at-eq13.branch)
+    (λ x l t. ⊎_elim (λ w. w.3.left t) (⊎_elim (λ w. omega (arith, w.1.left)) (λ w. w.left x)) c.if-file-at-eq13.branch-raw)
     c.after_blanks-2.ensures
 
 pub after_indent_spec : {M : Type 1} → statement M

@@ -17,8 +17,8 @@ returns-2 c = sym (ap (λ (z : ℕ). end_byte z || blank z) c.if-b-eq10.true)
 
 returns-3 : tie.Need-returns
 returns-3 c =
-    let b = c.before.before.before.args.b in
-    c.blank.ensures ∙ sym (ap (λ (z : Bool). z || blank b) (not-end-byte b c.before.before.if-b-eq13.false c.before.if-b-eq10.false))
+    let b = c.args.b in
+    c.blank.ensures ∙ sym (ap (λ (z : Bool). z || blank b) (not-end-byte b c.if-b-eq13.false c.if-b-eq10.false))
 
 pub blank_or_end_spec : {M : Type 1} → statement M
 blank_or_end_spec = tie.close (tie.spec returns returns-2 (λ c κs. search rules) returns-3)

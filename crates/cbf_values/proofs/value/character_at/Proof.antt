@@ -11,13 +11,13 @@ use Rattle.cbf_values.proofs.value.character_at.Statement.{statement}
 use Rattle.cbf_values.proofs.value.character_at.Tie as tie
 
 returns : tie.Need-returns-then-at-to
-returns c = joined-empty c.before.before.args.file.now c.before.before.args.at c.before.before.args.to c.if-at-to.true
+returns c = joined-empty c.args.file.now c.args.at c.args.to c.if-at-to.true
 
 returns-2 : tie.Need-returns-then-b-ne10
 returns-2 c =
     let s = c.before.before.before.before.before in (
       joined-next s.args.file.now s.args.to s.requires.1 s.args.at (omega arith)
-          (not-end-byte (get_or s.args.file.now s.args.at 0) c.before.if-b-ne13.true c.if-b-ne10.true),
+          (not-end-byte (get_or s.args.file.now s.args.at 0) c.if-b-ne13.true c.if-b-ne10.true),
       omega
           arith,
       omega arith,
@@ -27,7 +27,7 @@ after-indent-requires : tie.Need-after_indent-requires
 after-indent-requires c κs =
     let s = c.before.before.before.before in
     let x = get_or s.args.file.now s.args.at 0 in
-    (omega arith, s.requires.1, ⊎_elim (λ w. ap end_byte w.1.left) (λ w. ap end_byte w.left) c.if-b-ne13.branch)
+    (omega arith, s.requires.1, ⊎_elim (λ w. ap end_byte w.1.left) (λ w. ap end_byte w.left) c.if-b-ne13.branch-raw)
 
 pub character_at_spec : {M : Type 1} → statement M
 character_at_spec =

@@ -24,35 +24,33 @@ loop-holds c = (omega arith, omega arith, refl)
 
 returns : tie.Need-returns-in-End invariant-loop decreases-loop
 returns c =
-    let a = c.before.before.before.before.before.before.before.args in
-    let l = c.before.before.before.before.loop-i in
-    let e = subst (λ (r : Character). Stepped a.file.now l.at a.to r) c.enum_told-1.given.1 c.before.before.character_at-c.ensures in
-    sym (l.invariant.2 ∙ word_over a.word.now l.i c.before.before.before.loop-i-test.true (joined (slice l.at a.to a.file.now)) e)
+    let a = c.args in
+    let l = c.loop-i in
+    let e = subst (λ (r : Character). Stepped a.file.now l.at a.to r) c.in-End.is c.character_at-c.ensures in
+    sym (l.invariant.2 ∙ word_over a.word.now l.i c.loop-i-test.true (joined (slice l.at a.to a.file.now)) e)
 
 returns-2 : tie.Need-returns-then-lower-word invariant-loop decreases-loop
 returns-2 c =
-    let a = c.before.before.before.before.before.before.before.before.before.before.before.args in
-    let l = c.before.before.before.before.before.before.before.before.loop-i in
-    let m = c.before.before.before.before.c-1.given in
-    let e = subst (λ (r : Character). Stepped a.file.now l.at a.to r) m.1
-    c.before.before.before.before.before.before.character_at-c.ensures in
-    let t = c.before.before.before.before.before.before.before.loop-i-test.true in
-    sym (l.invariant.2 ∙ word-differs a.word.now l.i t m.0.0 (joined (slice l.at a.to a.file.now))
-    (joined (slice m.0.1.0 a.to a.file.now)) e.0
-    (λ q. c.if-lower-word.true (c.before.before.lower.ensures ∙ q)))
+    let a = c.args in
+    let l = c.loop-i in
+    let e = subst (λ (r : Character). Stepped a.file.now l.at a.to r) c.in-Byte.is
+    c.character_at-c.ensures in
+    let t = c.loop-i-test.true in
+    sym (l.invariant.2 ∙ word-differs a.word.now l.i t c.in-Byte.b (joined (slice l.at a.to a.file.now))
+    (joined (slice c.in-Byte.next a.to a.file.now)) e.0
+    (λ q. c.if-lower-word.true (c.lower.ensures ∙ q)))
 
 loop-again : tie.Need-loop-i-preserved invariant-loop decreases-loop
 loop-again c =
-    let a = c.before.before.before.before.before.before.before.before.before.before.before.args in
-    let l = c.before.before.before.before.before.before.before.before.loop-i in
-    let m = c.before.before.before.before.c-1.given in
-    let e = subst (λ (r : Character). Stepped a.file.now l.at a.to r) m.1
-    c.before.before.before.before.before.before.character_at-c.ensures in
-    let t = c.before.before.before.before.before.before.before.loop-i-test.true in (
+    let a = c.args in
+    let l = c.loop-i in
+    let e = subst (λ (r : Character). Stepped a.file.now l.at a.to r) c.in-Byte.is
+    c.character_at-c.ensures in
+    let t = c.loop-i-test.true in (
       e.2,
       omega arith,
-      l.invariant.2 ∙ word-turn a.word.now l.i t m.0.0 (joined (slice l.at a.to a.file.now))
-          (joined (slice m.0.1.0 a.to a.file.now)) e.0 (sym c.before.before.lower.ensures
+      l.invariant.2 ∙ word-turn a.word.now l.i t c.in-Byte.b (joined (slice l.at a.to a.file.now))
+          (joined (slice c.in-Byte.next a.to a.file.now)) e.0 (sym c.lower.ensures
           ∙ c.if-lower-word.false),
     )
 
@@ -60,7 +58,7 @@ returns-3 : tie.Need-returns invariant-loop decreases-loop
 returns-3 c =
     let st = c.before.before.before.before in
     let a = st.args in
-    let l = c.before.loop-i in
+    let l = c.loop-i in
     sym (l.invariant.2 ∙ word-ends a.word.now l.i a.file.now l.at a.to (omega arith) (omega arith) (omega arith))
 
 pub is_value_spec : {M : Type 1} → statement M

@@ -25,19 +25,19 @@ decreases-loop file from to least most n₀ i₀ n i = to - i
 
 returns : tie.Need-returns-then-to-from-lt1 invariant-loop decreases-loop
 returns c =
-    let a = c.before.args in
+    let a = c.args in
     let s = slice a.from a.to a.file.now in
-    whole-bad a.least a.most s (number_short s (omega (arith, length-slice a.from a.to a.file.now c.before.requires.1)))
+    whole-bad a.least a.most s (number_short s (omega (arith, length-slice a.from a.to a.file.now c.requires.1)))
 
 returns-2 : tie.Need-returns-then-to-from-gt10 invariant-loop decreases-loop
 returns-2 c =
-    let a = c.before.before.args in
+    let a = c.args in
     let s = slice a.from a.to a.file.now in
-    whole-bad a.least a.most s (number-long s (omega (arith, length-slice a.from a.to a.file.now c.before.before.requires.1)))
+    whole-bad a.least a.most s (number-long s (omega (arith, length-slice a.from a.to a.file.now c.requires.1)))
 
 loop-holds : tie.Need-loop-i-init invariant-loop decreases-loop
 loop-holds c =
-    let a = c.before.before.args in
+    let a = c.args in
     let z : a.from - a.from ≡ 0 = omega arith in
     (omega arith, omega arith, rw z (omega arith), refl, refl)
 
@@ -45,46 +45,46 @@ returns-3 : tie.Need-returns-then-b-lt48 invariant-loop decreases-loop
 returns-3 c =
     let st = c.before.before.before.before.before.before in
     let a = st.args in
-    let l = c.before.before.before.loop-i in
+    let l = c.loop-i in
     let s = slice a.from a.to a.file.now in
     whole-bad a.least a.most s (number-none s (l.invariant.3 ∙ digits-over a.file.now l.i a.to
-    c.before.before.loop-i-test.true st.requires.1 (digit_low (get_or a.file.now l.i 0)
+    c.loop-i-test.true st.requires.1 (digit_low (get_or a.file.now l.i 0)
     c.if-b-lt48.true)))
 
 returns-4 : tie.Need-returns-then-b-gt57 invariant-loop decreases-loop
 returns-4 c =
     let st = c.before.before.before.before.before.before.before in
     let a = st.args in
-    let l = c.before.before.before.before.loop-i in
+    let l = c.loop-i in
     let s = slice a.from a.to a.file.now in
     whole-bad a.least a.most s (number-none s (l.invariant.3 ∙ digits-over a.file.now l.i a.to
-    c.before.before.before.loop-i-test.true st.requires.1 (digit-high (get_or a.file.now l.i 0)
+    c.loop-i-test.true st.requires.1 (digit-high (get_or a.file.now l.i 0)
     c.if-b-gt57.true)))
 
 mul-n : tie.Need-overflow_mul-n invariant-loop decreases-loop
 mul-n c =
-    let a = c.before.before.before.before.before.before.before.args in
-    let l = c.before.before.before.before.loop-i in
+    let a = c.args in
+    let l = c.loop-i in
     omega (arith, ten-digits (l.i - a.from) l.n l.invariant.2 (omega arith))
 
 cast-n : tie.Need-overflow_cast-n invariant-loop decreases-loop
 cast-n c =
-    let l = c.before.before.before.before.loop-i in
-    omega (arith, c.before.before.shared_slice_known-1.given l.i)
+    let l = c.loop-i in
+    omega (arith, c.shared_slice_known-1.given l.i)
 
 add-n : tie.Need-overflow_add-n invariant-loop decreases-loop
 add-n c =
-    let a = c.before.before.before.before.before.before.before.args in
-    let l = c.before.before.before.before.loop-i in
-    omega (arith, c.before.before.shared_slice_known-1.given l.i, ten-digits (l.i - a.from) l.n l.invariant.2 (omega arith))
+    let a = c.args in
+    let l = c.loop-i in
+    omega (arith, c.shared_slice_known-1.given l.i, ten-digits (l.i - a.from) l.n l.invariant.2 (omega arith))
 
 loop-again : tie.Need-loop-i-preserved invariant-loop decreases-loop
 loop-again c =
     let st = c.before.before.before.before.before.before.before in
     let a = st.args in
     let f = a.file.now in
-    let l = c.before.before.before.before.loop-i in
-    let t = c.before.before.before.loop-i-test.true in
+    let l = c.loop-i in
+    let t = c.loop-i-test.true in
     let b = get_or f l.i 0 in
     let z : suc (l.i - a.from) ≡ l.i + 1 - a.from = omega arith in (
       omega arith,
@@ -98,7 +98,7 @@ returns-5 : tie.Need-returns-then-n-least invariant-loop decreases-loop
 returns-5 c =
     let st = c.before.before.before.before.before in
     let a = st.args in
-    let l = c.before.before.loop-i in
+    let l = c.loop-i in
     let s = slice a.from a.to a.file.now in
     whole-less a.least a.most s l.n (known a.file.now a.from a.to l.i l.n (omega arith)
     (omega arith) (omega arith) st.requires.1 l.invariant.3 l.invariant.4) c.if-n-least.true
@@ -107,7 +107,7 @@ returns-6 : tie.Need-returns-then-most-n invariant-loop decreases-loop
 returns-6 c =
     let st = c.before.before.before.before.before.before in
     let a = st.args in
-    let l = c.before.before.before.loop-i in
+    let l = c.loop-i in
     let s = slice a.from a.to a.file.now in
     whole-more a.least a.most s l.n (known a.file.now a.from a.to l.i l.n (omega arith)
     (omega arith) (omega arith) st.requires.1 l.invariant.3 l.invariant.4) c.if-most-n.true
@@ -116,7 +116,7 @@ returns-7 : tie.Need-returns invariant-loop decreases-loop
 returns-7 c =
     let st = c.before.before.before.before.before.before in
     let a = st.args in
-    let l = c.before.before.before.loop-i in
+    let l = c.loop-i in
     let s = slice a.from a.to a.file.now in
     whole_in a.least a.most s l.n (known a.file.now a.from a.to l.i l.n (omega arith)
     (omega arith) (omega arith) st.requires.1 l.invariant.3 l.invariant.4) (omega arith) (omega arith)

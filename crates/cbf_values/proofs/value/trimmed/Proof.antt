@@ -22,34 +22,34 @@ loop-holds c = (omega arith, omega arith, omega arith, refl)
 loop-again : tie.Need-loop-a-preserved-then-blank_or_end invariant-loop decreases-loop
 loop-again c =
     let s = c.before.before.before.before.before.before in
-    let l = c.before.before.before.before.loop-a in (
+    let l = c.loop-a in (
       omega arith,
       omega arith,
       omega arith,
       sym (trim-front s.args.file.now l.a l.b
-          c.before.before.before.loop-a-test.true (omega arith) (sym c.before.blank_or_end.ensures
+          c.loop-a-test.true (omega arith) (sym c.blank_or_end.ensures
           ∙ c.if-blank_or_end.true)) ∙ l.invariant.3,
     )
 
 loop-again-2 : tie.Need-loop-a-preserved invariant-loop decreases-loop
 loop-again-2 c =
     let s = c.before.before.before.before.before.before.before.before.before in
-    let l = c.before.before.before.before.before.before.before.loop-a in
-    let t = c.before.before.before.before.before.before.loop-a-test.true in (
+    let l = c.loop-a in
+    let t = c.loop-a-test.true in (
       omega arith,
       omega arith,
       omega arith,
       sym (trim-back s.args.file.now l.a l.b t (omega arith)
-          (sym c.before.blank_or_end-else-blank_or_end.ensures ∙ c.if-blank_or_end-2.true)) ∙ l.invariant.3,
+          (sym c.blank_or_end-else-blank_or_end.ensures ∙ c.if-blank_or_end-2.true)) ∙ l.invariant.3,
     )
 
 returns : tie.Need-returns-else-blank_or_end-2 invariant-loop decreases-loop
 returns c =
     let s = c.before.before.before.before.before.before.before.before.before in
-    let l = c.before.before.before.before.before.before.before.loop-a in
-    let t = c.before.before.before.before.before.before.loop-a-test.true in
-    let f = sym c.before.before.before.before.blank_or_end.ensures ∙ c.before.before.before.if-blank_or_end.false in
-    let b = sym c.before.blank_or_end-else-blank_or_end.ensures ∙ c.if-blank_or_end-2.false in (
+    let l = c.loop-a in
+    let t = c.loop-a-test.true in
+    let f = sym c.blank_or_end.ensures ∙ c.if-blank_or_end.false in
+    let b = sym c.blank_or_end-else-blank_or_end.ensures ∙ c.if-blank_or_end-2.false in (
       sym (trim-over s.args.file.now l.a l.b t (omega arith) f b) ∙ l.invariant.3,
       record { order = omega arith; inside = omega arith; front = λ h. f; back = λ h. b },
       omega arith,
@@ -59,7 +59,7 @@ returns c =
 returns-2 : tie.Need-returns invariant-loop decreases-loop
 returns-2 c =
     let s = c.before.before.before in
-    let l = c.before.loop-a in
+    let l = c.loop-a in
     let e : l.a ≡ l.b = omega arith in (
       sym (trim-empty s.args.file.now l.a l.b e) ∙ l.invariant.3,
       record { order = omega arith; inside = omega arith; front = λ h. absurd (omega arith); back = λ h. absurd (omega arith) },

@@ -14,10 +14,10 @@ loop-holds : tie.Need-loop-rest-init invariant-loop decreases-loop
 loop-holds c = counted_none 19 c.args.n (omega arith)
 
 loop-again : tie.Need-loop-rest-preserved invariant-loop decreases-loop
-loop-again c = counted-more c.before.loop-rest.invariant c.loop-rest-test.true
+loop-again c = counted-more c.loop-rest.invariant c.loop-rest-test.true
 
 returns : tie.Need-returns invariant-loop decreases-loop
-returns c = counted-all c.before.loop-rest.invariant (omega arith)
+returns c = counted-all c.loop-rest.invariant (omega arith)
 
 pub digit_count_spec : {M : Type 1} → statement M
 digit_count_spec =

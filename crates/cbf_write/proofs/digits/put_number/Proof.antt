@@ -24,20 +24,20 @@ digit-count-requires c κs = tt
 
 loop-holds : tie.Need-loop-i-init invariant-loop decreases-loop
 loop-holds c =
-    let a = c.before.before.args in
+    let a = c.args in
     let e : length (printed a.n) ≡ a.at + c.digit_count.result - a.at = omega arith in
     (omega arith, omega arith, ap (λ (l : List ℕ). sets a.out.now a.at l) (sym (digits_last 20 a.n ∙ ap (λ (k : ℕ). last_digits k a.n) e)))
 
 slice-write-out : tie.Need-bounds-out-i invariant-loop decreases-loop
 slice-write-out c =
-    let a = c.before.before.before.before.args in
-    let l = c.before.loop-i in
+    let a = c.args in
+    let l = c.loop-i in
     omega (arith, puts-length l.out a.out.now (last_digits (l.i - a.at) l.rest) (printed a.n) a.at l.invariant.2)
 
 loop-again : tie.Need-loop-i-preserved invariant-loop decreases-loop
 loop-again c =
-    let a = c.before.before.before.before.args in
-    let l = c.before.loop-i in
+    let a = c.args in
+    let l = c.loop-i in
     let k = l.i - 1 - a.at in
     let p : a.at + k ≡ l.i - 1 = omega arith in
     let m : suc k ≡ l.i - a.at = omega arith in
@@ -45,15 +45,15 @@ loop-again c =
 
 same_length : tie.Need-shape_of-out invariant-loop decreases-loop
 same_length c =
-    let a = c.before.before.before.before.args in
-    let l = c.before.loop-i in
+    let a = c.args in
+    let l = c.loop-i in
     puts-length l.out a.out.now (last_digits (l.i - a.at) l.rest) (printed a.n) a.at l.invariant.2
 
 returns : tie.Need-returns invariant-loop decreases-loop
 unfolding last_digits
 returns c =
-    let a = c.before.before.before.before.args in
-    let l = c.before.loop-i in
+    let a = c.args in
+    let l = c.loop-i in
     let z : l.i - a.at ≡ 0 = omega arith in
     (omega arith, rw z at l.invariant.2)
 

@@ -30,7 +30,7 @@ loop-holds c = (omega arith, c.block-held.ensures, λ k h. absurd (omega arith))
 loop-again : tie.Need-loop-j-preserved invariant-loop decreases-loop invariant-loop2 decreases-loop2
 loop-again c =
     let s = c.before.before.before.before.before.before in
-    let l = c.before.before.loop-j in
+    let l = c.loop-j in
     let f : ℕ → ℕ = λ k. get_or s.args.bytes.now (s.args.i + k) 0 in (
       omega arith,
       length-set l.held l.j (f l.j) ∙ l.invariant.1,
@@ -42,30 +42,30 @@ loop2-holds c = (omega arith, refl)
 
 slice-write-out : tie.Need-bounds-out-at invariant-loop decreases-loop invariant-loop2 decreases-loop2
 slice-write-out c =
-    let a = c.before.before.before.before.before.before.before.args in
-    let l = c.before.loop-k in
+    let a = c.args in
+    let l = c.loop-k in
     omega (arith, puts-length l.out a.out.now [] (take l.k (drop a.i a.bytes.now)) (a.at + a.i) l.invariant.1)
 
 loop2-again : tie.Need-loop-k-preserved invariant-loop decreases-loop invariant-loop2 decreases-loop2
 loop2-again c =
-    let a = c.before.before.before.before.before.before.before.args in
-    let l = c.before.loop-k in
-    let held = c.before.before.before.loop-j in (
+    let a = c.args in
+    let l = c.loop-k in
+    let held = c.loop-j in (
       omega arith,
-      rw (l.invariant.1, held.invariant.2 l.k (omega (arith, c.before.before.loop-j-test.false)), add-one)
+      rw (l.invariant.1, held.invariant.2 l.k (omega (arith, c.loop-j-test.false)), add-one)
           (sets-part a.out.now a.bytes.now (a.at + a.i) a.i l.k (omega arith)),
     )
 
 same_length : tie.Need-shape_of-out invariant-loop decreases-loop invariant-loop2 decreases-loop2
 same_length c =
-    let a = c.before.before.before.before.before.before.before.args in
-    let l = c.before.loop-k in
+    let a = c.args in
+    let l = c.loop-k in
     puts-length l.out a.out.now [] (take l.k (drop a.i a.bytes.now)) (a.at + a.i) l.invariant.1
 
 returns : tie.Need-returns invariant-loop decreases-loop invariant-loop2 decreases-loop2
 returns c =
-    let a = c.before.before.before.before.before.before.before.args in
-    let l = c.before.loop-k in
+    let a = c.args in
+    let l = c.loop-k in
     let e : l.k ≡ a.n = omega (arith, l.invariant.0, c.loop-k-test.false) in
     (refl, rw (← e) l.invariant.1)
 

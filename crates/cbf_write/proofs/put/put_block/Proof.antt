@@ -21,26 +21,26 @@ loop-holds c = (omega arith, refl)
 
 slice-write-out : tie.Need-bounds-out-at invariant-loop decreases-loop
 slice-write-out c =
-    let a = c.before.before.before.args in
-    let l = c.before.before.loop-j in
+    let a = c.args in
+    let l = c.loop-j in
     omega (arith, puts-length l.out a.out.now [] (take l.j (drop a.i a.text.now)) (a.at + a.i) l.invariant.1)
 
 loop-again : tie.Need-loop-j-preserved invariant-loop decreases-loop
 loop-again c =
-    let a = c.before.before.before.args in
-    let l = c.before.before.loop-j in
+    let a = c.args in
+    let l = c.loop-j in
     (omega arith, rw (l.invariant.1, add-one) (sets-part a.out.now a.text.now (a.at + a.i) a.i l.j (omega arith)))
 
 same_length : tie.Need-shape_of-out invariant-loop decreases-loop
 same_length c =
-    let a = c.before.before.args in
-    let l = c.before.loop-j in
+    let a = c.args in
+    let l = c.loop-j in
     puts-length l.out a.out.now [] (take l.j (drop a.i a.text.now)) (a.at + a.i) l.invariant.1
 
 returns : tie.Need-returns invariant-loop decreases-loop
 returns c =
-    let a = c.before.before.args in
-    let l = c.before.loop-j in
+    let a = c.args in
+    let l = c.loop-j in
     let e : l.j ≡ a.n = omega arith in
     (refl, l.invariant.1 ∙ ap (λ (k : ℕ). sets a.out.now (a.at + a.i) (take k (drop a.i a.text.now))) e)
 

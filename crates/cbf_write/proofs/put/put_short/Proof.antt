@@ -22,40 +22,40 @@ sub-loop : tie.Need-overflow_sub-text invariant-loop decreases-loop
 sub-loop c = omega (arith, c.loop-i.invariant.within)
 
 put-block-requires : tie.Need-put_block-i-requires invariant-loop decreases-loop
-put-block-requires c κs = omega (arith, c.before.before.loop-i.invariant.within, copied-length c.before.before.loop-i.invariant)
+put-block-requires c κs = omega (arith, c.loop-i.invariant.within, copied-length c.loop-i.invariant)
 
 loop-less : tie.Need-loop-i-smaller invariant-loop decreases-loop
 loop-less c =
     let m = c.before.before in
-    omega (arith, m.put_block-i.ensures.0, m.before.before.before.loop-i.invariant.within)
+    omega (arith, m.put_block-i.ensures.0, m.loop-i.invariant.within)
 
 loop-again : tie.Need-loop-i-preserved invariant-loop decreases-loop
 loop-again c =
     let m = c.before.before in
-    let v = m.before.before.before.loop-i.invariant in
+    let v = m.loop-i.invariant in
     copied_more v 8 (omega (arith, v.within)) m.put_block-i.ensures.0 m.put_block-i.ensures.1
 
 sub-if1 : tie.Need-overflow_sub-text-2 invariant-loop decreases-loop
-sub-if1 c = omega (arith, c.before.loop-i.invariant.within)
+sub-if1 c = omega (arith, c.loop-i.invariant.within)
 
 put-block-requires-2 : tie.Need-put_block-i-requires-then-text-i-ge4 invariant-loop decreases-loop
-put-block-requires-2 c κs = omega (arith, c.before.before.before.loop-i.invariant.within, copied-length c.before.before.before.loop-i.invariant)
+put-block-requires-2 c κs = omega (arith, c.loop-i.invariant.within, copied-length c.loop-i.invariant)
 
 -- fewer than four octets are left
 joined : (c : tie.Joined-text-i-ge4 invariant-loop decreases-loop)
-    → Copied c.before.before.before.before.before.args.out.now
-    c.before.before.before.before.before.args.at
-    c.before.before.before.before.before.args.text.now c.if-text-i-ge4.out c.if-text-i-ge4.i
-    × (length c.before.before.before.before.before.args.text.now < c.if-text-i-ge4.i + 4)
+    → Copied c.args.out.now
+    c.args.at
+    c.args.text.now c.if-text-i-ge4.out c.if-text-i-ge4.i
+    × (length c.args.text.now < c.if-text-i-ge4.i + 4)
 joined c =
-    let v = c.before.before.loop-i.invariant in
+    let v = c.loop-i.invariant in
     ⊎_elim
     (λ w. (
       copied-as (copied_more v 4 (omega (arith, v.within)) w.2.ensures.0 w.2.ensures.1) w.5 w.6,
       omega (arith, v.within, w.6, w.2.ensures.0),
     ))
     (λ w. (copied-as v w.1 w.2, omega (arith, v.within, w.2, w.0.left)))
-    c.if-text-i-ge4.branch
+    c.if-text-i-ge4.branch-raw
 
 sub-if2 : tie.Need-overflow_sub-text-3 invariant-loop decreases-loop
 sub-if2 c = omega (arith, (joined c.before).0.within)
@@ -65,10 +65,10 @@ put-block-requires-3 c κs = let v = (joined c.before.before.before).0 in omega 
 
 -- and at most one
 joined-2 : (c : tie.Joined-text-i-ge2 invariant-loop decreases-loop)
-    → Copied c.before.before.before.before.before.before.before.args.out.now
-    c.before.before.before.before.before.before.before.args.at
-    c.before.before.before.before.before.before.before.args.text.now c.if-text-i-ge2.out c.if-text-i-ge2.i
-    × (length c.before.before.before.before.before.before.before.args.text.now < c.if-text-i-ge2.i + 2)
+    → Copied c.args.out.now
+    c.args.at
+    c.args.text.now c.if-text-i-ge2.out c.if-text-i-ge2.i
+    × (length c.args.text.now < c.if-text-i-ge2.i + 2)
 joined-2 c =
     let j = joined c.before.before in
     let v = j.0 in
@@ -78,7 +78,7 @@ joined-2 c =
       omega (arith, j.1, w.6, w.2.ensures.0),
     ))
     (λ w. (copied-as v w.1 w.2, omega (arith, v.within, w.2, w.0.left)))
-    c.if-text-i-ge2.branch
+    c.if-text-i-ge2.branch-raw
 
 put-block-requires-4 : tie.Need-put_block-requires invariant-loop decreases-loop
 put-block-requires-4 c κs = let v = (joined-2 c.before.before).0 in omega (arith, v.within, copied-length v)

@@ -21,26 +21,26 @@ loop-holds c = (omega arith, refl)
 
 slice-write-out : tie.Need-bounds-out-at invariant-loop decreases-loop
 slice-write-out c =
-    let a = c.before.before.before.args in
-    let l = c.before.before.loop-i in
+    let a = c.args in
+    let l = c.loop-i in
     omega (arith, puts-length l.out a.out.now [] (take l.i a.text.now) a.at l.invariant.1)
 
 loop-again : tie.Need-loop-i-preserved invariant-loop decreases-loop
 loop-again c =
-    let a = c.before.before.before.args in
-    let l = c.before.before.loop-i in
-    (omega arith, rw (l.invariant.1, add-one) (sets-take a.out.now a.text.now a.at l.i c.before.loop-i-test.true))
+    let a = c.args in
+    let l = c.loop-i in
+    (omega arith, rw (l.invariant.1, add-one) (sets-take a.out.now a.text.now a.at l.i c.loop-i-test.true))
 
 same_length : tie.Need-shape_of-out invariant-loop decreases-loop
 same_length c =
-    let a = c.before.before.args in
-    let l = c.before.loop-i in
+    let a = c.args in
+    let l = c.loop-i in
     puts-length l.out a.out.now [] (take l.i a.text.now) a.at l.invariant.1
 
 returns : tie.Need-returns invariant-loop decreases-loop
 returns c =
-    let a = c.before.before.args in
-    let l = c.before.loop-i in
+    let a = c.args in
+    let l = c.loop-i in
     (omega arith, l.invariant.1 ∙ ap (λ (t : List ℕ). sets a.out.now a.at t) (take_all l.i a.text.now c.loop-i-test.false))
 
 pub put_text_spec : {M : Type 1} → statement M
