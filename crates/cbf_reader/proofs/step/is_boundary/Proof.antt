@@ -18,7 +18,7 @@ returns-2 : tie.Need-returns-in_default
 returns-2 c f e =
     let a = c.args in
     let s = same (slice a.at a.to a.file.now) opening in
-    ap (λ (b : Bool). b && s) (not_opened a.at a.field c.in_default.keys2 f e)
+    ap (λ (b : Bool). b && s) (not_opened a.at a.field c.in_default.in_default-own.keys2 f e)
 
 pub is_boundary_spec : {M : Type 1} → statement M
 is_boundary_spec =

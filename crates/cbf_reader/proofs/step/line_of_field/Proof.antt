@@ -13,7 +13,7 @@ returns c f b e =
 returns-2 : tie.Need-returns-in_default
 returns-2 c f b e =
     let a = c.args in
-    c.text_line.ensures ∙ line_other a.at a.limit (drop a.at a.file.now) a.field c.in_default.keys2 f e
+    c.text_line.ensures ∙ line_other a.at a.limit (drop a.at a.file.now) a.field c.in_default.in_default-own.keys2 f e
 
 pub line_of_field_spec : {M : Type 1} → statement M
 line_of_field_spec =

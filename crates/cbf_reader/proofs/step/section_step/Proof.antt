@@ -17,7 +17,7 @@ returns-2 c st k =
     let pre = c.requires in
     section-over a.limit a.file.now a.c a.next pre.0 pre.1 pre.2 st k
     c.if-c-ge512.false (R.Refused c.in-Refused.r)
-    (sym (c.section_at-s.ensures st.block-1) ∙ c.in-Refused.is)
+    (sym (c.section_at-s.ensures st.block) ∙ c.in-Refused.is)
 
 returns-3 : tie.Need-returns-in-CutOff
 returns-3 c st k =
@@ -25,7 +25,7 @@ returns-3 c st k =
     let pre = c.requires in
     section-over a.limit a.file.now a.c a.next pre.0 pre.1 pre.2 st k
     c.if-c-ge512.false (R.CutOff) (sym (c.section_at-s.ensures
-    st.block-1) ∙ c.in-CutOff.is)
+    st.block) ∙ c.in-CutOff.is)
 
 returns-4 : tie.Need-returns-in-At
 returns-4 c st k =
@@ -34,7 +34,7 @@ returns-4 c st k =
     section-over a.limit a.file.now a.c a.next pre.0 pre.1 pre.2 st k
     c.if-c-ge512.false (R.At c.in-At.section
     c.in-At.after) (sym (c.section_at-s.ensures
-    st.block-1) ∙ c.in-At.is)
+    st.block) ∙ c.in-At.is)
 
 pub section_step_spec : {M : Type 1} → statement M
 section_step_spec =

@@ -8,14 +8,11 @@ use Rattle.cbf_reader.proofs.step.step.Statement.{statement}
 use Rattle.cbf_reader.proofs.step.step.Tie as tie
 
 -- where the line that was read lies, from its start up to the next line's
-abbrev start : tie.In-Text → tie.Start
-start c = c.before.before.before.before
-
-line-bounds : (c : tie.In-Text) → ((start c).args.c.at ≤ c.in-Text.to)
-    × (c.in-Text.to ≤ c.in-Text.next) × (c.in-Text.next ≤ length (start c).args.file.now)
+line-bounds : (c : tie.In-Text) → (c.args.c.at ≤ c.in-Text.to)
+    × (c.in-Text.to ≤ c.in-Text.next) × (c.in-Text.next ≤ length c.args.file.now)
 line-bounds c =
-    let a = (start c).args in
-    let ready = (start c).requires in
+    let a = c.args in
+    let ready = c.requires in
     let w = ready.stands in
     let p = line-passed a.limit a.file.now a.c.at ready.at_in w.0 c.in-Text.to c.in-Text.next (sym c.in-Text.is
     ∙ c.line_of_field-l.ensures w.0 w.1.0 w.1.1) in
@@ -53,9 +50,9 @@ step_spec =
     tie.close
     (tie.spec
     (λ c κs. c.requires.at_in) (λ c. search rules) (λ c. search rules)
-    (λ c κs. let b = line-bounds c.before in (b.0, omega arith))
-    (λ c κs. let b = line-bounds c.before.before.before in ((start c.before.before.before).requires, omega arith, b.2))
+    (λ c κs. let b = line-bounds c in (b.0, omega arith))
+    (λ c κs. let b = line-bounds c.before.before in (c.requires, omega arith, b.2))
     returns
-    (λ c κs. let b = line-bounds c.before.before.before in let ready = (start c.before.before.before).requires in
+    (λ c κs. let b = line-bounds c.before.before in let ready = c.requires in
     (b.0, omega arith, ready.block_low, ready.block_high))
     returns-2 returns-3)
