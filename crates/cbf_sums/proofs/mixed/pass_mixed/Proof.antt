@@ -46,14 +46,16 @@ returns-3 c = λ _.
     let W = last.ensures c.if-last-eq0.false in
     let none = c.if-crowded-ne0.false in
     let apart = c.crowded.ensures none in
-    let P = mixed-passes c.args.top os c.args.i ms ds c.args.biased last.result (marked _ _ _ m.ensures) apart d.ensures.is
+    let P = mixed-passes c.args.top os c.args.i ms ds c.args.biased last.result (marked _ _ _ m.ensures) apart
+    d.ensures.is
     (λ n. omega (arith, k.given n)) c.requires.3 c.requires.4 W in
     let Q = subst (λ (n : ℕ). Passes c.args.top os c.args.biased c.args.i (ends_to ms 192) last.result (c.args.i + n))
     (sym whole.ensures.0) P in
     let R = subst (λ (n : ℕ). Passes c.args.top os c.args.biased c.args.i n last.result (c.args.i + whole.result))
     (sym c.ends.ensures.0) Q in (
       c.ends.ensures.1,
-      passed_to c.args.top os c.args.biased c.args.i c.ends.result last.result (c.args.i + whole.result) (walk-between W) R
+      passed_to c.args.top os c.args.biased c.args.i c.ends.result last.result (c.args.i + whole.result)
+          (walk-between W) R
           (omega (arith, whole.ensures.1, c.requires.4)),
     )
 

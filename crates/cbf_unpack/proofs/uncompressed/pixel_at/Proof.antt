@@ -29,8 +29,9 @@ returns-2 : tie.Need-returns-then-width-eq2
 unfolding half
 returns-2 c =
     let a = c.args in
-    held c.pixel-then-width-eq2.result c.pixel-then-width-eq2.type_inv ∙ c.pixel-then-width-eq2.ensures 2 refl ∙ pixel-is a.signed a.i
-    a.octets.now c.le2.ensures.0 c.if-width-eq2.true
+    held c.pixel-then-width-eq2.result c.pixel-then-width-eq2.type_inv
+    ∙ c.pixel-then-width-eq2.ensures 2 refl
+    ∙ pixel-is a.signed a.i a.octets.now c.le2.ensures.0 c.if-width-eq2.true
 
 four : (c : tie.Else-width-eq2) → c.args.width ≡ 4
 four c = else-four c.args.width c.requires.0 c.if-width-eq1.false c.if-width-eq2.false
