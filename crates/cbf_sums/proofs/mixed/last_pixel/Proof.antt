@@ -11,18 +11,17 @@ is-far-requires : tie.Need-is_far-requires
 is-far-requires c κs = let t = top_small c.args.top c.requires.0 in (omega (arith, c.requires.1.1), omega arith)
 
 add-result : tie.Need-overflow_add-result
-add-result c = let s = c.before.before.before.before in let t = top_small s.args.top s.requires.0 in omega (arith, s.requires.1.1, c.total.ensures.1)
+add-result c = let t = top_small c.args.top c.requires.0 in omega (arith, c.requires.1.1, c.total.ensures.1)
 
 sub-result : tie.Need-overflow_sub-result
 sub-result c = let f = c.is_far.ensures c.if-is_far.true in omega (arith, f.0)
 
 returns : tie.Need-returns-then-is_far
 returns c = λ _.
-    let s = c.before.before.before.before in
-    let a = s.args in
+    let a = c.args in
     let f = c.is_far.ensures c.if-is_far.true in
     subst (λ (r : ℕ). Walk a.added.now biased_least a.top a.biased (a.biased + r - 6291456)) (sym c.total.ensures.0)
-    (walk-far a.added.now s.requires.3.number biased_least a.top a.biased f.0 f.1)
+    (walk-far a.added.now c.requires.3.number biased_least a.top a.biased f.0 f.1)
 
 base-of-requires : tie.Need-base_of-base-requires
 base-of-requires c κs = let p = c.requires in (p.0, p.1, omega arith, omega (arith, p.2))
@@ -35,8 +34,7 @@ returns-2 c = λ h. absurd (h refl)
 
 add-result-2 : tie.Need-overflow_add-result-2
 add-result-2 c =
-    let s = c.before.before.before.before.before.before in
-    let t = top_small s.args.top s.requires.0 in
+    let t = top_small c.args.top c.requires.0 in
     let b = c.base_of-base.ensures in
     omega (arith, b.greatest, c.if-above-gt32767.false)
 

@@ -17,18 +17,17 @@ returns c = λ h. let y : ⊥ = omega arith in absurd y
 
 returns-2 : tie.Need-returns
 returns-2 c = λ h.
-    let s = c.before.before.before.before.before.before.before.before.before.before in
-    let ds = s.args.added.now in
-    let A = s.requires.1 in
+    let ds = c.args.added.now in
+    let A = c.requires.1 in
     let pairs = c.add_back in
     let fours = c.add_back-2 in
     let L = c.levels-all in
     let one = windows-one 65536 ds 192 A.none in
     let two = windows-twice 65536 ds 16 1 192 208 ds (replicate 208 0) pairs.new.sums (omega arith) one zeros pairs.ensures in
     let four = windows-twice 65536 ds 16 2 192 208 pairs.new.sums ds fours.new.sums (omega arith) two A.none fours.ensures in
-    let start = levels-start 65536 ds 16 s.args.c 208 (omega (arith, s.requires.0)) (omega arith) in
-    walk-near ds s.args.c L.new.pixels (L.ensures.0 ds s.args.c four start)
-    (λ k b. omega (arith, L.ensures.1 k b, c.if-all-gt32767.false)) s.requires.0 A.number
+    let start = levels-start 65536 ds 16 c.args.c 208 (omega (arith, c.requires.0)) (omega arith) in
+    walk-near ds c.args.c L.new.pixels (L.ensures.0 ds c.args.c four start)
+    (λ k b. omega (arith, L.ensures.1 k b, c.if-all-gt32767.false)) c.requires.0 A.number
 
 pub near_spec : {M : Type 1} → statement M
 near_spec =

@@ -14,32 +14,28 @@ returns c = λ h. let y : ⊥ = omega arith in absurd y
 
 differences-of-requires : tie.Need-differences_of-requires
 differences-of-requires c κs =
-    let s = c.before.before.before.before.before.before.before.before in
     let m = c.mark_each in
-    (s.requires.3, s.requires.4, each-mark s.args.octets.now s.args.i m.new.marks (marked _ _ _ m.ensures), refl)
+    (c.requires.3, c.requires.4, each-mark c.args.octets.now c.args.i m.new.marks (marked _ _ _ m.ensures), refl)
 
 last-pixel-requires : tie.Need-last_pixel-last-requires
 last-pixel-requires c κs =
-    let s = c.before.before.before.before.before.before.before.before.before.before in
     let k = c.shared_slice_known-1 in
     let ms = c.mark_each.new.marks in
     let d = c.differences_of in
-    let A = addends s.args.octets.now s.args.i ms d.new.added (λ n. omega (arith, k.given n)) d.ensures in
-    (s.requires.0, s.requires.1, s.requires.2, A)
+    let A = addends c.args.octets.now c.args.i ms d.new.added (λ n. omega (arith, k.given n)) d.ensures in
+    (c.requires.0, c.requires.1, c.requires.2, A)
 
 returns-2 : tie.Need-returns-then-last-eq0
 returns-2 c = λ h. let y : ⊥ = omega arith in absurd y
 
 ends-requires : tie.Need-ends-requires
 ends-requires c κs =
-    let s = c.before.before.before.before.before.before.before.before.before.before.before.before.before.before.before in
     let m = c.mark_each in
-    each-mark s.args.octets.now s.args.i m.new.marks (marked _ _ _ m.ensures)
+    each-mark c.args.octets.now c.args.i m.new.marks (marked _ _ _ m.ensures)
 
 returns-3 : tie.Need-returns
 returns-3 c = λ _.
-    let s = c.before.before.before.before.before.before.before.before.before.before.before.before.before.before.before.before in
-    let os = s.args.octets.now in
+    let os = c.args.octets.now in
     let k = c.shared_slice_known-1 in
     let m = c.mark_each in
     let ms = m.new.marks in
@@ -50,15 +46,17 @@ returns-3 c = λ _.
     let W = last.ensures c.if-last-eq0.false in
     let none = c.if-crowded-ne0.false in
     let apart = c.crowded.ensures none in
-    let P = mixed-passes s.args.top os s.args.i ms ds s.args.biased last.result (marked _ _ _ m.ensures) apart d.ensures.is
-    (λ n. omega (arith, k.given n)) s.requires.3 s.requires.4 W in
-    let Q = subst (λ (n : ℕ). Passes s.args.top os s.args.biased s.args.i (ends_to ms 192) last.result (s.args.i + n))
+    let P = mixed-passes c.args.top os c.args.i ms ds c.args.biased last.result (marked _ _ _ m.ensures) apart
+    d.ensures.is
+    (λ n. omega (arith, k.given n)) c.requires.3 c.requires.4 W in
+    let Q = subst (λ (n : ℕ). Passes c.args.top os c.args.biased c.args.i (ends_to ms 192) last.result (c.args.i + n))
     (sym whole.ensures.0) P in
-    let R = subst (λ (n : ℕ). Passes s.args.top os s.args.biased s.args.i n last.result (s.args.i + whole.result))
+    let R = subst (λ (n : ℕ). Passes c.args.top os c.args.biased c.args.i n last.result (c.args.i + whole.result))
     (sym c.ends.ensures.0) Q in (
       c.ends.ensures.1,
-      passed_to s.args.top os s.args.biased s.args.i c.ends.result last.result (s.args.i + whole.result) (walk-between W) R
-          (omega (arith, whole.ensures.1, s.requires.4)),
+      passed_to c.args.top os c.args.biased c.args.i c.ends.result last.result (c.args.i + whole.result)
+          (walk-between W) R
+          (omega (arith, whole.ensures.1, c.requires.4)),
     )
 
 pub pass_mixed_spec : {M : Type 1} → statement M

@@ -1,13 +1,14 @@
 -- `fill_part` meets its contract: j of the pixels are written. Assumes nothing.
 use Prim.Native.Nat.{◌+◌, ◌-◌, ◌<◌, ◌≤◌}
 use mathlib.Core.Path.{refl, sym}
-use mathlib.Core.Logic.{inl, inr, ⊎_elim}
+use mathlib.Core.Logic.{inl, inr}
 use native.Mathlib.Omega.{arith}
 use Rattle.cbf_unpack.specs.Fill.{Filled}
 use Rattle.cbf_unpack.proofs.FillLaws.{unpacks-held, part_then_lem, run-then, filled_none, filled-then, filled-as}
 use Rattle.cbf_unpack.proofs.FillLaws.{filled-length, filled-part}
 use Rattle.cbf_pixels.proofs.Integers.{held}
 use Rattle.cbf_unpack.proofs.fill.fill_part.Statement.{statement}
+use Rattle.cbf_unpack.proofs.fill.fill_part.Lts.{then-n-eq0, else-n-eq0}
 use Rattle.cbf_unpack.proofs.fill.fill_part.Tie as tie
 
 abbrev invariant-loop : tie.invariant-loop-j
@@ -69,24 +70,28 @@ joined : (c : tie.Joined-n-eq0 invariant-loop decreases-loop)
     × (c.loop-j.j + c.if-n-eq0.n ≤ c.args.count)
     × Filled c.args.octets.now
     c.loop-j.last.pixel
-    c.loop-j.last.next c.if-n-eq0.n c.if-n-eq0.new.pixel
-    c.if-n-eq0.new.next (c.args.k +
+    c.loop-j.last.next c.if-n-eq0.n c.if-n-eq0.last.pixel
+    c.if-n-eq0.last.next (c.args.k +
     c.loop-j.j) c.loop-j.out
     c.if-n-eq0.out
 joined c =
     let l = c.loop-j in
     let t = c.loop-j-test.true in
     let e = c.plain_run-n.ensures in
-    ⊎_elim
-    (λ w. (omega (arith, w.7, w.1.ensures.2 (omega arith)), omega (arith, w.7, w.1.ensures.0), rw (w.5, w.6, w.7) w.3.ensures))
-    (λ w. (
-      omega (arith, w.7, w.0.left),
-      omega (arith, w.7, e.few),
-      rw (w.5, w.6, w.7) (filled-as w.3.ensures
-          (held l.last.pixel (omega (arith, l.invariant.1.after))) refl
-          (sym (held w.3.result (omega (arith, w.3.ensures.after)))) refl),
-    ))
-    c.if-n-eq0.branch-raw
+    elim c.if-n-eq0.branch [
+      | then-n-eq0 w ↦ (
+        omega (arith, w.n-is, w.part-n.ensures.2 (omega arith)),
+        omega (arith, w.n-is, w.part-n.ensures.0),
+        rw (w.out-is, w.last-is, w.n-is) w.fill_few-last.ensures,
+      )
+      | else-n-eq0 w ↦ (
+        omega (arith, w.n-is, w.if-n-eq0.false),
+        omega (arith, w.n-is, e.few),
+        rw (w.out-is, w.last-is, w.n-is) (filled-as w.fill_run-z.ensures
+            (held l.last.pixel (omega (arith, l.invariant.1.after))) refl
+            (sym (held w.fill_run-z.result (omega (arith, w.fill_run-z.ensures.after)))) refl),
+      )
+    ]
 
 add-j : tie.Need-overflow_add-j invariant-loop decreases-loop
 add-j c = omega (arith, (joined c.before).1)

@@ -64,7 +64,7 @@ loop-again c =
       omega arith,
       front-more c.is_signed-signed.result w l.k a.octets.now a.out.now
           l.out _ F (omega (arith, F.size, c.requires.1))
-          (held c.pixel_at-z.result c.pixel_at-z.type-inv ∙ c.pixel_at-z.ensures),
+          (held c.pixel_at-z.result c.pixel_at-z.type_inv ∙ c.pixel_at-z.ensures),
     )
 
 same_length : tie.Need-shape_of-out invariant-loop decreases-loop

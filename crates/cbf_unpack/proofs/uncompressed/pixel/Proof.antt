@@ -17,7 +17,7 @@ small H = let p : 2 ^ H.exponent ≤ 2 ^ 31 = pow-le-pow_right (omega arith) H.s
 returns : tie.Need-returns-then-signed
 unfolding pixel_of
 returns c k e =
-    to_z-of_z {w = w64} (record { sfits = c.extended.type-inv }) ∙ c.extended.ensures k e
+    to_z-of_z {w = w64} (record { sfits = c.extended.type_inv }) ∙ c.extended.ensures k e
     ∙ ap (λ (b : Bool). pixel_of b k c.args.n) (sym c.if-signed.true)
 
 cast-result : tie.Need-overflow_cast-result

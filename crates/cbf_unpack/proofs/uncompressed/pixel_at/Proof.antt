@@ -16,7 +16,7 @@ returns : tie.Need-returns-then-width-eq1
 unfolding half
 returns c =
     let a = c.args in
-    held c.pixel.result c.pixel.type-inv
+    held c.pixel.result c.pixel.type_inv
     ∙ c.pixel.ensures 1 refl
     ∙ pixel-is a.signed a.i a.octets.now (c.wide.ensures.0
     ∙ sym (number-one a.i a.octets.now (omega (arith, c.requires.1))))
@@ -29,8 +29,9 @@ returns-2 : tie.Need-returns-then-width-eq2
 unfolding half
 returns-2 c =
     let a = c.args in
-    held c.pixel-then-width-eq2.result c.pixel-then-width-eq2.type-inv ∙ c.pixel-then-width-eq2.ensures 2 refl ∙ pixel-is a.signed a.i
-    a.octets.now c.le2.ensures.0 c.if-width-eq2.true
+    held c.pixel-then-width-eq2.result c.pixel-then-width-eq2.type_inv
+    ∙ c.pixel-then-width-eq2.ensures 2 refl
+    ∙ pixel-is a.signed a.i a.octets.now c.le2.ensures.0 c.if-width-eq2.true
 
 four : (c : tie.Else-width-eq2) → c.args.width ≡ 4
 four c = else-four c.args.width c.requires.0 c.if-width-eq1.false c.if-width-eq2.false
@@ -45,7 +46,7 @@ returns-3 : tie.Need-returns
 unfolding half
 returns-3 c =
     let a = c.args in
-    held c.pixel-2.result c.pixel-2.type-inv ∙ c.pixel-2.ensures 4 refl ∙ pixel-is a.signed a.i
+    held c.pixel-2.result c.pixel-2.type_inv ∙ c.pixel-2.ensures 4 refl ∙ pixel-is a.signed a.i
     a.octets.now c.le4.ensures.0 (four c.before.before)
 
 pub pixel_at_spec : {M : Type 1} → statement M

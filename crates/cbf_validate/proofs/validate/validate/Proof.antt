@@ -12,13 +12,13 @@ returns : tie.Need-returns-then-not-all
 returns c =
     let a = c.args in
     let all = c.validate_part-all in
-    unpacks-not a.kind a.octets.now a.count all.result all.ensures (c.if-not-all.true)
+    unpacks-not a.kind a.octets.now a.count all.result all.ensures (not-true _ c.if-not-all.true)
 
 returns-2 : tie.Need-returns
 returns-2 c =
     let a = c.args in
     let all = c.validate_part-all in
-    unpacks-to a.kind a.octets.now a.count all.result all.ensures (c.if-not-all.false)
+    unpacks-to a.kind a.octets.now a.count all.result all.ensures (not-false _ c.if-not-all.false)
 
 pub validate_spec : {M : Type 1} → statement M
 validate_spec = tie.close (tie.spec validate-part-requires returns returns-2)
