@@ -295,23 +295,42 @@ pub record Taken (s : List ℕ) (at : ℕ) (t : List ℕ) (ls : List (ℕ × Lis
   pub after : Lying s (at + size) rest
   pub fresh : Fresh rest
 
-pub taken : {s : List ℕ} {at n : ℕ} {t : List ℕ} {ls : List (ℕ × List ℕ)} → line (drop at s) ≡ ok t n → Lying s (at + n) ls → Taken s at t ls
-taken {n = n} {t = t} h done = record { more = []; rest = []; end = length t; size = n; both = refl; lies = alone h; after = done; fresh = tt }
-taken {s = s} {at = at} {n = n} {t = t} h (next {n = m} {t = c} {ls = ls} e r) = go (continues c) refl (taken e r)
+-- where they lie from v on
+taken-at : {s : List ℕ} {at n v : ℕ} {t : List ℕ} {ls : List (ℕ × List ℕ)} → line (drop at s) ≡ ok t n → Lying s v ls
+    → v ≡ at + n → Taken s at t ls
+taken-at {n = n} {t = t} h done q = record { more = []; rest = []; end = length t; size = n; both = refl; lies = alone h; after = done; fresh = tt }
+taken-at {s = s} {at = at} {n = n} {v = v} {t = t} h (next {n = m} {t = c} {ls = ls} e r) q =
+    go (continues c) refl (taken-at {at = v} {n = m} {v = v + m} {t = c} {ls = ls} e r refl)
   where
-    go : (b : Bool) → continues c ≡ b → Taken s (at + n) c ls → Taken s at t ((at + n, c) ∷ ls)
-    go false f w = record { more = []; rest = (at + n, c) ∷ ls; end = length t; size = n; both = refl; lies = alone h; after = next e r; fresh = f }
+    go : (b : Bool) → continues c ≡ b → Taken s v c ls → Taken s at t ((v, c) ∷ ls)
+    go false f w =
+        record {
+          more = [];
+          rest = (v, c) ∷ ls;
+          end = length t;
+          size = n;
+          both = refl;
+          lies = alone h;
+          after = subst (λ (z : ℕ). Lying s z ((v, c) ∷ ls)) q (next e r);
+          fresh = f;
+        }
     go true f w =
         record {
-          more = (at + n, c) ∷ w.more;
+          more = (v, c) ∷ w.more;
           rest = w.rest;
           end = n + w.end;
           size = n + w.size;
-          both = ap (λ (z : List (ℕ × List ℕ)). (at + n, c) ∷ z) w.both;
-          lies = onto h f (subst (λ (z : List ℕ). Continued z c (texts w.more) w.end w.size) (sym (drop-drop n at s)) w.lies);
-          after = let q : at + n + w.size ≡ at + (n + w.size) = omega arith in subst (λ (z : ℕ). Lying s z w.rest) q w.after;
+          both = ap (λ (z : List (ℕ × List ℕ)). (v, c) ∷ z) w.both;
+          lies = onto h f (subst (λ (z : List ℕ). Continued z c (texts w.more) w.end w.size)
+              (ap (λ (k : ℕ). drop k s) q ∙ sym (drop-drop n at s)) w.lies);
+          after =
+              let p : v + w.size ≡ at + (n + w.size) = omega (arith, q) in
+              subst (λ (z : ℕ). Lying s z w.rest) p w.after;
           fresh = w.fresh;
         }
+
+pub taken : {s : List ℕ} {at n : ℕ} {t : List ℕ} {ls : List (ℕ × List ℕ)} → line (drop at s) ≡ ok t n → Lying s (at + n) ls → Taken s at t ls
+taken h l = taken-at h l refl
 
 -- lines with text, none of them malformed
 abbrev pub Formed : Bool → List (ℕ × List ℕ) → Type 0

@@ -34,7 +34,7 @@ parts_at c = c.header_parts-parts.ensures (headers-at c.before)
 
 -- where its name is a known one
 abbrev parts-of : tie.In-Known invariant-loop decreases-loop → tie.After-header_parts-parts invariant-loop decreases-loop
-parts-of k = k.before.before.before.before
+parts-of k = k.before.before
 
 loop-holds : tie.Need-loop-at-init invariant-loop decreases-loop
 loop-holds c = let a = c.args in judging-none a.file.now a.from a.empty c.nothing-values.ensures
@@ -69,7 +69,7 @@ known-value-requires c κs =
 
 returns-2 : tie.Need-returns-in-Bad invariant-loop decreases-loop
 returns-2 c =
-    let v = c.before.before in
+    let v = c.before in
     let k = v.before.before.before in
     let p = parts-of k in
     let i = p.loop-at.invariant in (
@@ -83,13 +83,13 @@ add-with-field c = omega (arith, number-range c.in-Number.is c.known_value-v.ens
 
 loop-less : tie.Need-loop-at-smaller-in-Number invariant-loop decreases-loop
 loop-less c =
-    let m = parts-of c.before.before.before.before.before.before.before in
+    let m = parts-of c.before.before.before.before.before in
     let p = parts_at m in
-    omega (arith, p.name_in, p.value_in, p.to_in, m.loop-at-test.taken)
+    omega (arith, p.name_in, p.value_in, p.to_in, m.loop-at-test.true)
 
 loop-again : tie.Need-loop-at-preserved-in-Number invariant-loop decreases-loop
 loop-again c =
-    let v = c.before.before.before.before in
+    let v = c.before.before in
     let k = v.before.before.before in
     let p = parts-of k in
     judging-number p.loop-at.invariant p.header_parts-parts.ensures k.known-name.ensures k.in-Known.is
@@ -98,13 +98,13 @@ loop-again c =
 
 loop-less-2 : tie.Need-loop-at-smaller invariant-loop decreases-loop
 loop-less-2 c =
-    let m = c.before.before.before in
+    let m = c.before.before in
     let p = parts_at m in
     omega (arith, p.name_in, p.value_in, p.to_in, m.loop-at-test.true)
 
 loop-again-2 : tie.Need-loop-at-preserved invariant-loop decreases-loop
 loop-again-2 c =
-    let m = c.before.before.before in
+    let m = c.before.before in
     judging-other m.loop-at.invariant m.header_parts-parts.ensures c.known-name.ensures c.in_default.is
 
 returns-3 : tie.Need-returns invariant-loop decreases-loop

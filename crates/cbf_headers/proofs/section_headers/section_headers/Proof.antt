@@ -52,15 +52,15 @@ returns-3 c =
 
 returns-4 : tie.Need-returns-in-Missing
 returns-4 c =
-    ap (read_as c.in-Empty.empty c.in-Empty.after) (sym c.in-Missing.is) ∙ said c.before.before
+    ap (read_as c.in-Empty.empty c.in-Empty.after) (sym c.in-Missing.is) ∙ said c.before
 
 returns-5 : tie.Need-returns-in-Disagree
 returns-5 c =
-    ap (read_as c.in-Empty.empty c.in-Empty.after) (sym c.in-Disagree.is) ∙ said c.before.before
+    ap (read_as c.in-Empty.empty c.in-Empty.after) (sym c.in-Disagree.is) ∙ said c.before
 
 returns-6 : tie.Need-returns-in-As
 returns-6 c =
-    ap (read_as c.in-Empty.empty c.in-Empty.after) (sym c.in-As.is) ∙ said c.before.before.before
+    ap (read_as c.in-Empty.empty c.in-Empty.after) (sym c.in-As.is) ∙ said c.before
 
 pub section_headers_spec : {M : Type 1} → statement M
 section_headers_spec =

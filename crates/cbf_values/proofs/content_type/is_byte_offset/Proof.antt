@@ -42,5 +42,4 @@ pub is_byte_offset_spec : {M : Type 1} → statement M
 is_byte_offset_spec =
     tie.close
     (tie.spec
-
     (λ c κs. search rules) (λ c κs. search rules) (λ c. search rules) (λ c. search rules) is-value-requires returns returns-2)

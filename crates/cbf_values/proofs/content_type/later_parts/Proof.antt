@@ -63,8 +63,8 @@ loop-again c =
       e.2,
       l.invariant.2
           ∙ ap (said_by l.found) (following-here f l.at a.to c.loop-at-test.true ∙ e.0)
-          ∙ said-next l.found (joined (slice (l.at + 1) p f)) (following f p a.to)
-          ∙ ap (λ (d : Conversion). said_by d (following f p a.to)) (sym c.with_part-found.ensures),
+          ∙ said-next l.found (joined (slice (l.at + 1) c.in-At.p f)) (following f c.in-At.p a.to)
+          ∙ ap (λ (d : Conversion). said_by d (following f c.in-At.p a.to)) (sym c.with_part-found.ensures),
     )
 
 -- no part is left
@@ -77,13 +77,13 @@ over c =
     l.invariant.2 ∙ ap (said_by l.found) (following-end a.file.now l.at a.to (omega (arith, l.invariant.1)))
 
 returns-2 : tie.Need-returns-in-Unseen invariant-loop decreases-loop
-returns-2 c = sym (ap whole_of (over c.before.before ∙ ap (λ (d : Conversion). said_by d (some [])) c.in-Unseen.is))
+returns-2 c = sym (ap whole_of (over c.before ∙ ap (λ (d : Conversion). said_by d (some [])) c.in-Unseen.is))
 
 returns-3 : tie.Need-returns-in-Seen invariant-loop decreases-loop
-returns-3 c = sym (ap whole_of (over c.before.before ∙ ap (λ (d : Conversion). said_by d (some [])) c.in-Seen.is))
+returns-3 c = sym (ap whole_of (over c.before ∙ ap (λ (d : Conversion). said_by d (some [])) c.in-Seen.is))
 
 returns-4 : tie.Need-returns-in-Wrong invariant-loop decreases-loop
-returns-4 c = sym (ap whole_of (over c.before.before ∙ ap (λ (d : Conversion). said_by d (some [])) c.in-Wrong.is))
+returns-4 c = sym (ap whole_of (over c.before ∙ ap (λ (d : Conversion). said_by d (some [])) c.in-Wrong.is))
 
 pub later_parts_spec : {M : Type 1} → statement M
 later_parts_spec =

@@ -5,7 +5,6 @@ use mathlib.Core.Logic.{⊎_elim}
 use mathlib.Core.Bool.{Bool, false}
 use Prim.Native.Nat.{◌+◌, ◌-◌, ◌<◌, ◌≤◌}
 use native.Mathlib.Omega.{arith}
-use borrow.Author.Tests.{not-true, not-false}
 use lib.ListN.{length}
 use lib.Seq.{slice}
 use Rattle.cbf_values.specs.Value.{joined}
@@ -28,7 +27,7 @@ returns c =
     let a = c.args in
     let l = c.loop-i in
     let closed : l.quoted ≡ false =
-    ⊎_elim (λ w. absurd (omega (arith, w.0.taken, c.if-b-eq59.true))) (λ w. sym w.1 ∙ c.if-not-quoted.true) c.if-b-eq34.branch-raw in (
+    ⊎_elim (λ w. absurd (omega (arith, w.if-b-eq34.true, c.if-b-eq59.true))) (λ w. sym w.quoted-is ∙ c.if-not-quoted.true) c.if-b-eq34.branch-raw in (
       part-ends a.file.now a.at l.i l.quoted l.invariant.0 l.invariant.2 a.to (omega arith) (omega arith)
           closed c.if-b-eq59.true,
       l.invariant.0,
@@ -44,11 +43,13 @@ loop-again c =
     let fits : l.i < length f = omega arith in
     let next : Begun c.if-b-eq34.quoted n =
     ⊎_elim
-    (λ w. subst (λ (q : Bool). Begun q n) (sym w.1) (begun-quote f a.at l.i l.quoted l.invariant.0 l.invariant.2 fits w.0.taken))
-    (λ w. subst (λ (q : Bool). Begun q n) (sym w.1)
+    (λ w. subst (λ (q : Bool). Begun q n) (sym w.quoted-is)
+    (begun-quote f a.at l.i l.quoted l.invariant.0 l.invariant.2 fits w.if-b-eq34.true))
+    (λ w. subst (λ (q : Bool). Begun q n) (sym w.quoted-is)
     (⊎_elim
-    (λ v. begun-quoted f a.at l.i l.quoted l.invariant.0 l.invariant.2 fits (sym w.1 ∙ not-false _ v.1.left) v.0.taken)
-    (λ v. begun-other f a.at l.i l.quoted l.invariant.0 l.invariant.2 fits w.0.left v.left)
+    (λ v. begun-quoted f a.at l.i l.quoted l.invariant.0 l.invariant.2 fits (sym w.quoted-is ∙ v.if-not-quoted.false)
+    v.if-b-eq59.true)
+    (λ v. begun-other f a.at l.i l.quoted l.invariant.0 l.invariant.2 fits w.if-b-eq34.false v.if-b-eq59.false)
     c.if-b-eq59.branch-raw))
     c.if-b-eq34.branch-raw in
     (omega arith, omega arith, next)

@@ -5,7 +5,6 @@ use mathlib.Core.List.{List}
 use Prim.Native.Nat.{ℕ, ◌<◌}
 use native.Mathlib.Omega.{arith}
 use borrow.Author.Rules.{rules}
-use borrow.Author.Tests.{not-true, not-false}
 use lib.Seq.{slice}
 use Rattle.cbf_format.specs.Text.{after}
 use Rattle.cbf_format.specs.Values.{given, with_part}
@@ -44,29 +43,29 @@ returns-2 : tie.Need-returns-then-middle-to
 returns-2 c =
     let a = c.args in
     let m = c.equals-middle in
-    sym (named c.before.before.before Unseen c.in-Unseen.is ∙ given-none a.file.now
+    sym (named c.before.before Unseen c.in-Unseen.is ∙ given-none a.file.now
     a.from a.to m.result (omega arith) m.ensures c.if-middle-to.true)
 
 -- and it has a value
 valued : (c : tie.After-is_byte_offset)
     → with_part c.args.found
-    (part c.before.before.before.before.before.before.before.before.before.before.before)
+    (part c.before.before.before.before.before.before.before.before.before.before)
     ≡ cond c.is_byte_offset.result Seen Wrong
 valued c =
     let a = c.args in
     let m = c.equals-middle in
     let h : m.result < a.to = omega (arith, m.ensures.high, c.if-middle-to.false) in
-    named c.before.before.before.before Unseen c.in-Unseen.is
+    named c.before.before.before Unseen c.in-Unseen.is
     ∙ given-value a.file.now a.from a.to m.result (omega arith) m.ensures h c.is_byte_offset.result c.is_byte_offset.ensures
 
 returns-3 : tie.Need-returns-then-is_byte_offset
 returns-3 c = sym (valued c.before ∙ ap (λ (b : Bool). cond b Seen Wrong) c.if-is_byte_offset.true)
 
 returns-4 : tie.Need-returns-in-Seen
-returns-4 c = sym (named c.before.before Seen c.in-Seen.is)
+returns-4 c = sym (named c.before Seen c.in-Seen.is)
 
 returns-5 : tie.Need-returns-in-Wrong
-returns-5 c = sym (named c.before.before Wrong c.in-Wrong.is)
+returns-5 c = sym (named c.before Wrong c.in-Wrong.is)
 
 returns-6 : tie.Need-returns-else-is_byte_offset
 returns-6 c = sym (valued c.before ∙ ap (λ (b : Bool). cond b Seen Wrong) c.if-is_byte_offset.false)
@@ -75,5 +74,4 @@ pub with_part_spec : {M : Type 1} → statement M
 with_part_spec =
     tie.close
     (tie.spec
-
     (λ c κs. search rules) (λ c κs. search rules) (λ c κs. search rules) returns (λ c. search rules) (λ c. search rules) (λ c. search rules) returns-2 (λ c. search rules) (λ c κs. search rules) returns-3 returns-4 returns-5 returns-6)

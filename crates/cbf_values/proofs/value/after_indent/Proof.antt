@@ -18,7 +18,8 @@ returns-2 c =
     let s = c.before.before.before.before in
     let f = s.args.file.now in
     indented-one f s.args.to s.requires.1 s.args.at c.after_blanks-2.result s.requires.2 s.requires.0
-    (λ x l t. ⊎_elim (λ w. w.3.left t) (⊎_elim (λ w. omega (arith, w.1.left)) (λ w. w.left x)) c.if-file-at-eq13.branch-raw)
+    (λ x l t. ⊎_elim (λ w. w.if-file-at-eq10.false t)
+    (⊎_elim (λ w. omega (arith, w.if-to-at-ge2.false)) (λ w. w.if-file-at-eq13.false x)) c.if-file-at-eq13.branch-raw)
     c.after_blanks-2.ensures
 
 pub after_indent_spec : {M : Type 1} → statement M

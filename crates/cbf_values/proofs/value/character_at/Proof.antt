@@ -26,8 +26,12 @@ returns-2 c =
 after-indent-requires : tie.Need-after_indent-requires
 after-indent-requires c κs =
     let s = c.before.before.before.before in
-    let x = get_or s.args.file.now s.args.at 0 in
-    (omega arith, s.requires.1, ⊎_elim (λ w. ap end_byte w.1.left) (λ w. ap end_byte w.left) c.if-b-ne13.branch-raw)
+    let x = get_or s.args.file.now s.args.at 0 in (
+      omega arith,
+      s.requires.1,
+      ⊎_elim (λ w. ap end_byte w.if-b-ne10.false)
+          (λ w. ap end_byte w.if-b-ne13.false) c.if-b-ne13.branch-raw,
+    )
 
 pub character_at_spec : {M : Type 1} → statement M
 character_at_spec =
