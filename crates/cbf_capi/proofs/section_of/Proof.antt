@@ -6,28 +6,23 @@ use Rattle.cbf_capi.proofs.section_of.Tie as tie
 
 cast-t14 : tie.Need-overflow_cast-result-8
 cast-t14 c =
-    let s = c.before.before.before.before.before.before.before.before.before.before in
-    record { fits = s.requires.numbers.second_fits }
+    record { fits = c.requires.numbers.second_fits }
 
 cast-t15 : tie.Need-overflow_cast-result-9
 cast-t15 c =
-    let s = c.before.before.before.before.before.before.before.before.before.before.before in
-    record { fits = s.requires.numbers.third_fits }
+    record { fits = c.requires.numbers.third_fits }
 
 cast-t16 : tie.Need-overflow_cast-result-10
 cast-t16 c =
-    let s = c.before.before.before.before.before.before.before.before.before.before.before.before in
-    record { fits = omega (arith, s.requires.name_low, s.requires.name_high) }
+    record { fits = omega (arith, c.requires.name_low, c.requires.name_high) }
 
 sub-t17 : tie.Need-overflow_sub-result
 sub-t17 c =
-    let s = c.before.before.before.before.before.before.before.before.before.before.before.before in
-    s.requires.name_low
+    c.requires.name_low
 
 cast-t18 : tie.Need-overflow_cast-result-11
 cast-t18 c =
-    let s = c.before.before.before.before.before.before.before.before.before.before.before.before in
-    record { fits = omega (arith, s.requires.name_high) }
+    record { fits = omega (arith, c.requires.name_high) }
 
 returns : tie.Need-returns
 returns c =

@@ -24,15 +24,13 @@ for-more more file old {said} {out} e u = subst (λ (b : Bool). TextSays b file 
 
 returns : tie.Need-returns-then-more
 returns c =
-    let w = c.before.before in
-    let a = w.args in
-    for-more a.more a.file.now a.out.now w.if-more.true w.refusal_line.ensures
+    let a = c.args in
+    for-more a.more a.file.now a.out.now c.if-more.true c.refusal_line.ensures
 
 returns-2 : tie.Need-returns
 returns-2 c =
-    let w = c.before.before in
-    let a = w.args in
-    for-more a.more a.file.now a.out.now w.if-more.false w.listing_or_refusal.ensures
+    let a = c.args in
+    for-more a.more a.file.now a.out.now c.if-more.false c.listing_or_refusal.ensures
 
 pub text_spec : {M : Type 1} → statement M
 text_spec =

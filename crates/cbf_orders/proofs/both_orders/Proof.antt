@@ -7,11 +7,9 @@ use Rattle.cbf_orders.proofs.both_orders.Tie as tie
 
 returns : tie.Need-returns
 returns c =
-    let t = c.before.before.before.before in
-    let s = t.before.before.before.before.before.before.before in
-    let a = s.args in
-    let x = s.one_order-ij.ensures in
-    let y = t.one_order-ji.ensures in
+    let a = c.args in
+    let x = c.one_order-ij.ensures in
+    let y = c.one_order-ji.ensures in
     ((x, y), λ h. demand-3 a.file.now (edit a.i a.f.now) (edit a.j a.g.now) h x y)
 
 pub both_orders_spec : {M : Type 1} → statement M

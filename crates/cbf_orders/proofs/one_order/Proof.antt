@@ -25,7 +25,7 @@ said m e =
 
 -- it gave a file
 given : (b : tie.In-Length)
-    → let m = b.before.before.before.before in b.in-Length.n ≤ length m.replace-first.new.out
+    → b.in-Length.n ≤ length b.replace-first.new.out
 given b =
     let m = b.before.before.before.before in
     let a = (start m).args in
@@ -48,12 +48,10 @@ returns c =
 
 returns-2 : tie.Need-returns-in-Length
 returns-2 c =
-    let u = c.before.before in
-    let b = u.before.before.before.before in
-    let m = b.before.before.before.before in
+    let m = c.before.before.before.before in
     let a = (start m).args in
-    let second = replaces _ a.j a.g.now a.oij.now u.replace-second.ensures.value.0 u.replace-second.ensures.value.1 in
-    record { first = said m (ap outcome b.in-Length.is); second = (outcome u.replace-second.result, refl, second) }
+    let second = replaces _ a.j a.g.now a.oij.now c.replace-second.ensures.value.0 c.replace-second.ensures.value.1 in
+    record { first = said m (ap outcome c.in-Length.is); second = (outcome c.replace-second.result, refl, second) }
 
 pub one_order_spec : {M : Type 1} → statement M
 one_order_spec =

@@ -7,26 +7,22 @@ use Rattle.cbf_catalogue.proofs.entries.entries.Tie as tie
 
 entries-from-requires : tie.Need-entries_from-requires
 entries-from-requires c κs =
-    let s = c.before.before.before.before.before.before.before in
-    let a = s.args in
+    let a = c.args in
     let says = subst (StartSays a.limit a.file.now) c.in-At.is
     (c.begin-started.ensures a.limit) in
-    (says.0, says.2, says.3, rw says.1 at s.requires)
+    (says.0, says.2, says.3, rw says.1 at c.requires)
 
 returns : tie.Need-returns-in-Refused
 returns c =
-    let s = c.before.before.before.before.before.before in
-    let a = s.args in
+    let a = c.args in
     let says = subst (StartSays a.limit a.file.now) c.in-Refused.is (c.begin-started.ensures a.limit) in
     rw says (refl, refl)
 
 returns-2 : tie.Need-returns-in-At
 returns-2 c =
-    let m = c.before.before in
-    let b = m.before.before.before in
-    let a = b.args in
-    let says = subst (StartSays a.limit a.file.now) b.in-At.is (b.begin-started.ensures a.limit) in
-    rw says.1 m.entries_from.ensures
+    let a = c.args in
+    let says = subst (StartSays a.limit a.file.now) c.in-At.is (c.begin-started.ensures a.limit) in
+    rw says.1 c.entries_from.ensures
 
 pub entries_spec : {M : Type 1} → statement M
 entries_spec =

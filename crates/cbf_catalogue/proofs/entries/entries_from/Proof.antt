@@ -48,40 +48,34 @@ add-put-entry c = omega (arith, c.loop-cursor.invariant.here.come.ready.few)
 
 put-entry-requires : tie.Need-put_entry-requires invariant-loop decreases-loop
 put-entry-requires c κs =
-    let t = c.before.before.before.before.before in
-    entered-room t.loop-cursor.invariant t.next_section-next.ensures
-    t.in-Found.is t.requires.3
+    entered-room c.loop-cursor.invariant c.next_section-next.ensures
+    c.in-Found.is c.requires.3
     c.if-writing.true
 
 with-name-requires : tie.Need-with_name-found-requires invariant-loop decreases-loop
 with-name-requires c κs =
-    let t = c.before.before.before in
-    entered-block t.loop-cursor.invariant t.next_section-next.ensures t.in-Found.is
+    entered-block c.loop-cursor.invariant c.next_section-next.ensures c.in-Found.is
 
 loop-less : tie.Need-loop-cursor-smaller-then-writing invariant-loop decreases-loop
 loop-less c =
-    let t = c.before.before.before.before.before.before.before.before in
-    loop-onward t.loop-cursor.invariant.here
-    t.next_section-next.ensures t.in-Found.is t.loop-cursor-test.true
+    loop-onward c.loop-cursor.invariant.here
+    c.next_section-next.ensures c.in-Found.is c.loop-cursor-test.true
 
 loop-again : tie.Need-loop-cursor-preserved-then-writing invariant-loop decreases-loop
 loop-again c =
-    let t = c.before.before.before.before.before.before.before.before in
-    entered-written t.loop-cursor.invariant t.next_section-next.ensures
-    t.in-Found.is t.requires.3
+    entered-written c.loop-cursor.invariant c.next_section-next.ensures
+    c.in-Found.is c.requires.3
     c.if-writing.true c.put_entry.ensures.1
 
 loop-less-2 : tie.Need-loop-cursor-smaller invariant-loop decreases-loop
 loop-less-2 c =
-    let t = c.before.before.before.before in
-    loop-onward t.loop-cursor.invariant.here
-    t.next_section-next.ensures t.in-Found.is t.loop-cursor-test.true
+    loop-onward c.loop-cursor.invariant.here
+    c.next_section-next.ensures c.in-Found.is c.loop-cursor-test.true
 
 loop-again-2 : tie.Need-loop-cursor-preserved invariant-loop decreases-loop
 loop-again-2 c =
-    let t = c.before.before.before.before in
-    entered-counted t.loop-cursor.invariant t.next_section-next.ensures
-    t.in-Found.is c.if-writing.false c.with_name-found.ensures
+    entered-counted c.loop-cursor.invariant c.next_section-next.ensures
+    c.in-Found.is c.if-writing.false c.with_name-found.ensures
 
 same-length-3 : tie.Need-shape_of-out invariant-loop decreases-loop
 same-length-3 c = entered-kept c.loop-cursor.invariant

@@ -14,17 +14,15 @@ use Rattle.cbf_catalogue.proofs.entry.put_label.Tie as tie
 
 returns : tie.Need-returns
 returns c =
-    let z = c.before.before.before.before.before.before.before in
-    let s = z.before.before.before.before in
-    let a = s.args in
+    let a = c.args in
     let file = a.file.now in
     let name = slice a.from a.to file in
-    let part = slice-part file a.from a.to s.requires.0 s.requires.1 in (
-      z.put_zeros-end.ensures.0,
+    let part = slice-part file a.from a.to c.requires.0 c.requires.1 in (
+      c.put_zeros-end.ensures.0,
       c.put_short.ensures
-          ∙ ap (λ (l : List ℕ). sets l a.at (take (a.to - a.from) (drop a.from file))) z.put_zeros-end.ensures.1
+          ∙ ap (λ (l : List ℕ). sets l a.at (take (a.to - a.from) (drop a.from file))) c.put_zeros-end.ensures.1
           ∙ ap (sets (sets a.out.now a.at (zeros label_width)) a.at) (sym part)
-          ∙ label-over a.out.now name a.at (omega (arith, length-slice a.from a.to file s.requires.1, s.requires.2)),
+          ∙ label-over a.out.now name a.at (omega (arith, length-slice a.from a.to file c.requires.1, c.requires.2)),
     )
 
 pub put_label_spec : {M : Type 1} → statement M

@@ -14,10 +14,8 @@ entries-requires c κs = λ e. let z : ◌≡◌ {A = ℕ} 0 1 = cc in absurd (o
 
 few : (c : tie.In-Count) → c.in-Count.n ≤ 512
 few c =
-    let b = c.before in
-    let m = b.before.before.before.before in
-    let a = m.args in
-    few-counted a.limit a.file.now (sym b.in-Count.is ∙ m.entries-counted.ensures.0)
+    let a = c.args in
+    few-counted a.limit a.file.now (sym c.in-Count.is ∙ c.entries-counted.ensures.0)
 
 mul-needed : tie.Need-overflow_mul-needed
 mul-needed c = omega (arith, few c)
@@ -27,49 +25,36 @@ add-needed c = omega (arith, few c)
 
 returns : tie.Need-returns-then-out-needed
 returns c =
-    let b = c.before.before.before in
-    let m = b.before.before.before.before in
-    let a = m.args in
-    let is = sym b.in-Count.is ∙ m.entries-counted.ensures.0 in
-    let r = catalogue-no-room a.limit a.file.now a.out.now m.entries-counted.ensures.1 is
+    let a = c.args in
+    let is = sym c.in-Count.is ∙ c.entries-counted.ensures.0 in
+    let r = catalogue-no-room a.limit a.file.now a.out.now c.entries-counted.ensures.1 is
     c.if-out-needed.true in
     (c.refused.ensures ∙ r.0, r.1)
 
 entries-requires-2 : tie.Need-entries-requires
 entries-requires-2 c κs =
-    let h = c.before.before.before in
-    let b = h.before.before.before.before in
-    let m = b.before.before.before.before in
-    let a = m.args in
-    let is = sym b.in-Count.is ∙ m.entries-counted.ensures.0 in
-    λ e. catalogue-fits a.limit a.file.now a.out.now m.entries-counted.ensures.1 is h.if-out-needed.false h.put_heading.ensures
+    let a = c.args in
+    let is = sym c.in-Count.is ∙ c.entries-counted.ensures.0 in
+    λ e. catalogue-fits a.limit a.file.now a.out.now c.entries-counted.ensures.1 is c.if-out-needed.false c.put_heading.ensures
 
 returns-2 : tie.Need-returns-in-Refused
 returns-2 c =
-    let b = c.before in
-    let m = b.before.before.before.before in
-    let a = m.args in
-    let is = sym b.in-Refused.is ∙ m.entries-counted.ensures.0 in
-    catalogue-refused a.limit a.file.now a.out.now m.entries-counted.ensures.1 is
+    let a = c.args in
+    let is = sym c.in-Refused.is ∙ c.entries-counted.ensures.0 in
+    catalogue-refused a.limit a.file.now a.out.now c.entries-counted.ensures.1 is
 
 returns-3 : tie.Need-returns-in-LongName
 returns-3 c =
-    let b = c.before in
-    let m = b.before.before.before.before in
-    let a = m.args in
-    let is = sym b.in-LongName.is ∙ m.entries-counted.ensures.0 in
-    catalogue-long a.limit a.file.now a.out.now m.entries-counted.ensures.1 is
+    let a = c.args in
+    let is = sym c.in-LongName.is ∙ c.entries-counted.ensures.0 in
+    catalogue-long a.limit a.file.now a.out.now c.entries-counted.ensures.1 is
 
 returns-4 : tie.Need-returns-else-out-needed
 returns-4 c =
-    let w = c.before.before in
-    let h = w.before.before.before.before in
-    let b = h.before.before.before.before in
-    let m = b.before.before.before.before in
-    let a = m.args in
-    let is = sym b.in-Count.is ∙ m.entries-counted.ensures.0 in
-    catalogue-has-room a.limit a.file.now a.out.now m.entries-counted.ensures.1 is
-    h.if-out-needed.false h.put_heading.ensures w.entries.ensures.1
+    let a = c.args in
+    let is = sym c.in-Count.is ∙ c.entries-counted.ensures.0 in
+    catalogue-has-room a.limit a.file.now a.out.now c.entries-counted.ensures.1 is
+    c.if-out-needed.false c.put_heading.ensures c.entries.ensures.1
 
 pub catalogue_spec : {M : Type 1} → statement M
 catalogue_spec =

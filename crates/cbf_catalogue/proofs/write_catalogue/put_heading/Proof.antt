@@ -9,10 +9,8 @@ use Rattle.cbf_catalogue.proofs.write_catalogue.put_heading.Tie as tie
 returns : tie.Need-returns
 unfolding octets
 returns c =
-    let t2 = c.before.before in
-    let t1 = t2.before.before.before.before in
-    let a = t1.args in
-    heading-put a.out.now a.count t1.put_text-after_version.ensures t2.put_little.ensures
+    let a = c.args in
+    heading-put a.out.now a.count c.put_text-after_version.ensures c.put_little.ensures
 
 pub put_heading_spec : {M : Type 1} → statement M
 put_heading_spec =

@@ -39,16 +39,14 @@ returns-2 c = listed-end c.loop-cursor.invariant c.next_section-next.ensures c.i
 
 put-line-requires : tie.Need-put_line-at-requires invariant-loop decreases-loop
 put-line-requires c κs =
-    let t = c.before.before.before in
-    let k = t.loop-cursor.invariant in
-    let p = t.requires in
-    let b = listed-block k t.next_section-next.ensures t.in-Found.is in
-    (b.0, b.1, listed-room k t.next_section-next.ensures t.in-Found.is p.3 c.if-writing.true)
+    let k = c.loop-cursor.invariant in
+    let p = c.requires in
+    let b = listed-block k c.next_section-next.ensures c.in-Found.is in
+    (b.0, b.1, listed-room k c.next_section-next.ensures c.in-Found.is p.3 c.if-writing.true)
 
 line-length-requires : tie.Need-line_length-at-requires invariant-loop decreases-loop
 line-length-requires c κs =
-    let t = c.before.before in
-    let b = listed-block t.loop-cursor.invariant t.next_section-next.ensures t.in-Found.is in
+    let b = listed-block c.loop-cursor.invariant c.next_section-next.ensures c.in-Found.is in
     omega (arith, b)
 
 add_at : tie.Need-overflow_add-at invariant-loop decreases-loop
@@ -58,29 +56,25 @@ add_at c =
 
 loop-less : tie.Need-loop-cursor-smaller-then-writing invariant-loop decreases-loop
 loop-less c =
-    let t = c.before.before.before.before.before.before in
-    loop-onward t.loop-cursor.invariant.here
-    t.next_section-next.ensures t.in-Found.is t.loop-cursor-test.true
+    loop-onward c.loop-cursor.invariant.here
+    c.next_section-next.ensures c.in-Found.is c.loop-cursor-test.true
 
 loop-again : tie.Need-loop-cursor-preserved-then-writing invariant-loop decreases-loop
 loop-again c =
-    let t = c.before.before.before.before.before.before in
-    listed-written t.loop-cursor.invariant t.next_section-next.ensures
-    t.in-Found.is c.if-writing.true c.put_line-at.ensures
+    listed-written c.loop-cursor.invariant c.next_section-next.ensures
+    c.in-Found.is c.if-writing.true c.put_line-at.ensures
 
 loop-less-2 : tie.Need-loop-cursor-smaller invariant-loop decreases-loop
 loop-less-2 c =
-    let t = c.before.before.before in
-    loop-onward t.loop-cursor.invariant.here
-    t.next_section-next.ensures t.in-Found.is t.loop-cursor-test.true
+    loop-onward c.loop-cursor.invariant.here
+    c.next_section-next.ensures c.in-Found.is c.loop-cursor-test.true
 
 loop-again-2 : tie.Need-loop-cursor-preserved invariant-loop decreases-loop
 loop-again-2 c =
-    let t = c.before.before.before in
-    let k = t.loop-cursor.invariant in
-    let b = listed-block k t.next_section-next.ensures t.in-Found.is in
-    let a = t.args in
-    listed-measured k t.next_section-next.ensures t.in-Found.is c.if-writing.false (c.line_length-at.ensures.0 a.file.now b.1)
+    let k = c.loop-cursor.invariant in
+    let b = listed-block k c.next_section-next.ensures c.in-Found.is in
+    let a = c.args in
+    listed-measured k c.next_section-next.ensures c.in-Found.is c.if-writing.false (c.line_length-at.ensures.0 a.file.now b.1)
 
 same-length-3 : tie.Need-shape_of-out invariant-loop decreases-loop
 same-length-3 c = listed_kept c.loop-cursor.invariant

@@ -14,39 +14,30 @@ lines-requires c κs = λ e. let z : ◌≡◌ {A = ℕ} 0 1 = cc in absurd (ome
 
 returns : tie.Need-returns-then-out-needed
 returns c =
-    let b = c.before.before.before in
-    let m = b.before.before.before.before in
-    let a = m.args in
-    let r = list-no-room (F.read a.limit a.file.now) a.out.now b.in-Length.needed
-    (sym b.in-Length.is ∙ m.lines-measured.ensures.0) (omega (arith, ap length m.lines-measured.ensures.1)) in
-    (c.refused.ensures ∙ r.0, m.lines-measured.ensures.1 ∙ r.1)
+    let a = c.args in
+    let r = list-no-room (F.read a.limit a.file.now) a.out.now c.in-Length.needed
+    (sym c.in-Length.is ∙ c.lines-measured.ensures.0) (omega (arith, ap length c.lines-measured.ensures.1)) in
+    (c.refused.ensures ∙ r.0, c.lines-measured.ensures.1 ∙ r.1)
 
 lines-requires-2 : tie.Need-lines-requires
 lines-requires-2 c κs =
-    let b = c.before.before.before in
-    let m = b.before.before.before.before in
-    let a = m.args in
-    let r = list-has-room (F.read a.limit a.file.now) a.out.now b.in-Length.needed
-    (sym b.in-Length.is ∙ m.lines-measured.ensures.0) (omega (arith, ap length m.lines-measured.ensures.1)) in
-    λ e. rw m.lines-measured.ensures.1 r.0
+    let a = c.args in
+    let r = list-has-room (F.read a.limit a.file.now) a.out.now c.in-Length.needed
+    (sym c.in-Length.is ∙ c.lines-measured.ensures.0) (omega (arith, ap length c.lines-measured.ensures.1)) in
+    λ e. rw c.lines-measured.ensures.1 r.0
 
 returns-2 : tie.Need-returns-in-Refused
 returns-2 c =
-    let b = c.before in
-    let m = b.before.before.before.before in
-    let a = m.args in
-    let r = list-refused (F.read a.limit a.file.now) a.out.now b.decreases.given.0.0 (sym b.decreases.given.1 ∙ m.lines-measured.ensures.0) in
-    (r.0, m.lines-measured.ensures.1 ∙ r.1)
+    let a = c.args in
+    let r = list-refused (F.read a.limit a.file.now) a.out.now c.in-Refused.r (sym c.in-Refused.is ∙ c.lines-measured.ensures.0) in
+    (r.0, c.lines-measured.ensures.1 ∙ r.1)
 
 returns-3 : tie.Need-returns-else-out-needed
 returns-3 c =
-    let w = c.before.before in
-    let b = w.before.before.before.before in
-    let m = b.before.before.before.before in
-    let a = m.args in
-    let r = list-has-room (F.read a.limit a.file.now) a.out.now b.in-Length.needed
-    (sym b.in-Length.is ∙ m.lines-measured.ensures.0) (omega (arith, ap length m.lines-measured.ensures.1)) in
-    (r.1.0, w.lines.ensures.1 ∙ rw m.lines-measured.ensures.1 r.1.1)
+    let a = c.args in
+    let r = list-has-room (F.read a.limit a.file.now) a.out.now c.in-Length.needed
+    (sym c.in-Length.is ∙ c.lines-measured.ensures.0) (omega (arith, ap length c.lines-measured.ensures.1)) in
+    (r.1.0, c.lines.ensures.1 ∙ rw c.lines-measured.ensures.1 r.1.1)
 
 pub list_spec : {M : Type 1} → statement M
 list_spec =

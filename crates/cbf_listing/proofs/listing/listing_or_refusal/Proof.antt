@@ -10,22 +10,17 @@ use Rattle.cbf_listing.proofs.listing.listing_or_refusal.Tie as tie
 
 returns : tie.Need-returns-in-Length
 returns c =
-    let b = c.before in
-    let m = b.before.before.before.before in
-    let a = m.args in
-    let e = sym (ap outcome b.in-Length.is) ∙ m.list-answer.ensures.0 in
-    let q = shown-listing (F.read a.limit a.file.now) (length a.out.now) b.in-Length.n e in
-    rw (q.0, ← q.1) (e, m.list-answer.ensures.1)
+    let a = c.args in
+    let e = sym (ap outcome c.in-Length.is) ∙ c.list-answer.ensures.0 in
+    let q = shown-listing (F.read a.limit a.file.now) (length a.out.now) c.in-Length.n e in
+    rw (q.0, ← q.1) (e, c.list-answer.ensures.1)
 
 returns-2 : tie.Need-returns-in-Refused
 returns-2 c =
-    let w = c.before.before in
-    let b = w.before.before.before in
-    let m = b.before.before.before.before in
-    let a = m.args in
-    let e = sym (ap outcome b.in-Refused.is) ∙ m.list-answer.ensures.0 in
-    let q = shown-refusal (F.read a.limit a.file.now) a.out.now b.in-Refused.r.number b.in-Refused.r.place e m.list-answer.ensures.1 in
-    rw q.0 (rw q.1 at w.refusal_line.ensures)
+    let a = c.args in
+    let e = sym (ap outcome c.in-Refused.is) ∙ c.list-answer.ensures.0 in
+    let q = shown-refusal (F.read a.limit a.file.now) a.out.now c.in-Refused.r.number c.in-Refused.r.place e c.list-answer.ensures.1 in
+    rw q.0 (rw q.1 at c.refusal_line.ensures)
 
 pub listing_or_refusal_spec : {M : Type 1} → statement M
 listing_or_refusal_spec =

@@ -22,21 +22,15 @@ returns c =
 
 returns-2 : tie.Need-returns
 returns-2 c =
-    let t5 = c.before.before in
-    let t4 = t5.before.before.before.before.before in
-    let t3 = t4.before.before.before.before in
-    let t2 = t3.before.before.before.before.before in
-    let t1 = t2.before.before.before.before in
-    let b = t1.before.before.before in
-    let a = b.args in
+    let a = c.args in
     let k = a.refusal.number in
     let p = a.refusal.place in
-    let d1 = b.digit_count in
-    let d2 = b.digit_count-2 in
+    let d1 = c.digit_count in
+    let d2 = c.digit_count-2 in
     let e : length (listing (refused k p)) ≡ 13 + d1.result + d2.result = rw (d1.ensures.0, d2.ensures.0) (refusal-length k p) in
-    let r = has_room (listing (refused k p)) a.out.now refl (sym e) b.if-out-n.false in
-    let q = refusal-put a.out.now k p t1.put_text-after_word.ensures t2.put_number-after_number.ensures t3.put_text-after_at.ensures
-    t4.put_number-after_place.ensures t5.put_text.ensures in
+    let r = has_room (listing (refused k p)) a.out.now refl (sym e) c.if-out-n.false in
+    let q = refusal-put a.out.now k p c.put_text-after_word.ensures c.put_number-after_number.ensures c.put_text-after_at.ensures
+    c.put_number-after_place.ensures c.put_text.ensures in
     (r.0, q.1 ∙ r.1)
 
 pub refusal_line_spec : {M : Type 1} → statement M

@@ -8,14 +8,13 @@ use Rattle.cbf_listing.proofs.section_line.line_length.Tie as tie
 
 returns : tie.Need-returns
 returns c =
-    let s = c.before.before.before.before.before.before.before.before.before in
-    let d = s.args.section.description in
-    let block = s.args.section.block in (
+    let d = c.args.section.description in
+    let block = c.args.section.block in (
       λ file h. omega (
         arith,
         c.name_length.ensures.0 file h,
-        line-lengths s.args.number
-            s.args.section.first d.size d.elements d.compression d.kind (slice block.from block.to
+        line-lengths c.args.number
+            c.args.section.first d.size d.elements d.compression d.kind (slice block.from block.to
             file),
       ),
       omega arith,

@@ -12,9 +12,8 @@ returns c = (λ file h. rw (name-empty file _ _ c.if-from-to.true) refl, omega a
 
 returns-2 : tie.Need-returns
 returns-2 c =
-    let s = c.before in
-    let h : s.args.from < s.args.to = omega arith in
-    (λ file k. name-length file s.args.from s.args.to h k, omega arith)
+    let h : c.args.from < c.args.to = omega arith in
+    (λ file k. name-length file c.args.from c.args.to h k, omega arith)
 
 pub name_length_spec : {M : Type 1} → statement M
 name_length_spec = tie.close (tie.spec returns (λ c. search rules) (λ c. search rules) returns-2)

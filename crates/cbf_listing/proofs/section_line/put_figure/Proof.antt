@@ -9,18 +9,15 @@ use Rattle.cbf_listing.proofs.section_line.put_figure.Tie as tie
 
 put-number-requires : tie.Need-put_number-end-requires
 put-number-requires c κs =
-    let s = c.before.before in
-    first_fits s.args.at (printed s.args.n) (32 ∷ []) s.requires
+    first_fits c.args.at (printed c.args.n) (32 ∷ []) c.requires
 
 put-text-requires : tie.Need-put_text-requires
 put-text-requires c κs =
-    let s = c.before.before.before.before.before.before.before in
-    rest-fits s.args.out.now s.args.at (printed s.args.n) (32 ∷ []) s.requires c.put_number-end.ensures
+    rest-fits c.args.out.now c.args.at (printed c.args.n) (32 ∷ []) c.requires c.put_number-end.ensures
 
 returns : tie.Need-returns
 returns c =
-    let s = c.before.before.before.before.before.before.before.before.before.before in
-    put_both s.args.out.now s.args.at (printed s.args.n) (32 ∷ [])
+    put_both c.args.out.now c.args.at (printed c.args.n) (32 ∷ [])
     c.put_number-end.ensures
     c.put_text.ensures
 

@@ -14,9 +14,8 @@ use Rattle.cbf_listing.proofs.section_line.put_figures.Tie as tie
 left-1 : (c : tie.After-put_figure-after_number) → let s = c.args in c.put_figure-after_number.result + length
     (figure s.position ++ (figure s.size ++ figure s.elements)) ≤ length c.put_figure-after_number.new.out
 left-1 c =
-    let s = c.before.before.before in
-    rest-fits s.args.out.now s.args.at (figure s.args.number) (figure s.args.position
-    ++ (figure s.args.size ++ figure s.args.elements)) s.requires c.put_figure-after_number.ensures
+    rest-fits c.args.out.now c.args.at (figure c.args.number) (figure c.args.position
+    ++ (figure c.args.size ++ figure c.args.elements)) c.requires c.put_figure-after_number.ensures
 
 left-2 : (c : tie.After-put_figure-after_position) → let s = c.args in
     c.put_figure-after_position.result + length (figure s.size ++ figure s.elements) ≤ length c.put_figure-after_position.new.out
@@ -28,8 +27,7 @@ left-2 c =
 
 put-figure-requires : tie.Need-put_figure-after_number-requires
 put-figure-requires c κs =
-    let s = c.before.before in
-    first_fits s.args.at (figure s.args.number) (figure s.args.position ++ (figure s.args.size ++ figure s.args.elements)) s.requires
+    first_fits c.args.at (figure c.args.number) (figure c.args.position ++ (figure c.args.size ++ figure c.args.elements)) c.requires
 
 put-figure-requires-2 : tie.Need-put_figure-after_position-requires
 put-figure-requires-2 c κs =

@@ -83,7 +83,7 @@ put-name-requires c κs =
 
 put-text-requires : tie.Need-put_text-requires
 put-text-requires c κs =
-    let s = c.before.before.before.before.before.before.before.before.before.before.before.before.before.before.before.before.before.before.before.before.before.before in
+    let s = c.before.before.before.before.before.before.before.before.before.before.before.before.before.before.before.before.before.before.before.before.before.before.before in
     let p = c.put_type-after_type in
     rest-fits p.new.out p.result (name s) (10 ∷ [])
     (left-3 c.before.before.before.before.before.before.before.before.before)
@@ -91,7 +91,7 @@ put-text-requires c κs =
 
 returns : tie.Need-returns
 returns c =
-    let s = c.before.before.before.before.before.before.before.before.before.before.before.before.before.before.before.before.before.before.before.before.before.before.before.before.before in
+    let s = c.before.before.before.before.before.before.before.before.before.before.before.before.before.before.before.before.before.before.before.before.before.before.before.before.before.before in
     let out = s.args.out.now in
     let at = s.args.at in
     let p = c.put_figures-after_figures in
@@ -99,7 +99,7 @@ returns c =
     let r = c.put_type-after_type in
     rw (pieces s)
     (put_both out at (numbers s) (after-numbers s) p.ensures
-    (put_both p.last.0 p.result (compression s) (after-compression s) q.ensures
+    (put_both p.new.out p.result (compression s) (after-compression s) q.ensures
     (put_both q.new.out q.result (type s) (after-type s) r.ensures
     (put_both r.new.out r.result (name s) (10 ∷ [])
     c.put_name-after_name.ensures

@@ -31,19 +31,19 @@ returns c =
 
 put-text-requires : tie.Need-put_text-after_space-requires
 put-text-requires c κs =
-    let s = c.before.before.before.before.before in
+    let s = c.before.before.before.before.before.before in
     first_fits s.args.at (32 ∷ []) (part s) (fits s (omega arith))
 
 put-text-requires-2 : tie.Need-put_text-requires
 put-text-requires-2 c κs =
-    let s = c.before.before.before.before.before.before.before.before.before.before in
+    let s = c.before.before.before.before.before.before.before.before.before.before.before in
     rest-fits s.args.out.now s.args.at (32 ∷ []) (part s)
     (fits s (omega (arith, c.if-from-to.false)))
     c.put_text-after_space.ensures
 
 returns-2 : tie.Need-returns
 returns-2 c =
-    let s = c.before.before.before.before.before.before.before.before.before.before.before.before.before in
+    let s = c.before.before.before.before.before.before.before.before.before.before.before.before.before.before in
     let out = s.args.out.now in
     rw (pieces s (omega (
       arith,

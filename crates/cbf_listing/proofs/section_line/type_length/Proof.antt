@@ -28,7 +28,7 @@ wider U32 h = refl
 wider S32 h = refl
 
 returns-3 : tie.Need-returns-in_default
-returns-3 c = (wider c.args.kind c.in_default.keys3, omega arith)
+returns-3 c = (wider c.args.kind c.in_default.in_default-own.keys3, omega arith)
 
 pub type_length_spec : {M : Type 1} → statement M
 type_length_spec =
