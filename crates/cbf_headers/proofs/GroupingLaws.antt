@@ -329,7 +329,8 @@ taken-at {s = s} {at = at} {n = n} {v = v} {t = t} h (next {n = m} {t = c} {ls =
           fresh = w.fresh;
         }
 
-pub taken : {s : List ℕ} {at n : ℕ} {t : List ℕ} {ls : List (ℕ × List ℕ)} → line (drop at s) ≡ ok t n → Lying s (at + n) ls → Taken s at t ls
+pub taken : {s : List ℕ} {at n : ℕ} {t : List ℕ} {ls : List (ℕ × List ℕ)} → line (drop at s) ≡ ok t n
+    → Lying s (at + n) ls → Taken s at t ls
 taken h l = taken-at h l refl
 
 -- lines with text, none of them malformed

@@ -28,7 +28,8 @@ returns c =
     let e4 : j4.if-b-gt90.other ≡ (between 90 97 b || j3.if-b-gt57.other) =
     flag-between 90 97 b _ j4.if-b-gt90.branch-raw (λ w. (w.if-b-gt90.true, w.if-b-lt97.true, w.other-is))
     (λ w. (w.if-b-lt97.false, w.other-is)) (λ w. (w.if-b-gt90.false, w.other-is)) in
-    let e5 : c.if-b-gt122.other ≡ (ltb 122 b || j4.if-b-gt90.other) = ⊎_elim (λ w. rw (lt-ltb 122 b w.if-b-gt122.true) w.other-is)
+    let e5 : c.if-b-gt122.other ≡ (ltb 122 b || j4.if-b-gt90.other) = ⊎_elim
+    (λ w. rw (lt-ltb 122 b w.if-b-gt122.true) w.other-is)
     (λ w. rw (le-ltb 122 b w.if-b-gt122.false) w.other-is) c.if-b-gt122.branch-raw in
     rw (e5, e4, e3, e2, e1) (letter-gaps b (omega arith))
 

@@ -25,7 +25,8 @@ loop-again c =
       omega arith,
       elim c.if-not-in_class.branch [
         | then-not-in_class w ↦ λ e. absurd (true≢false (sym w.other-is ∙ e))
-        | else-not-in_class w ↦ λ e. run-to (run-next (l.invariant.1 (sym w.other-is ∙ e)) (sym c.in_class.ensures ∙ w.if-not-in_class.false)) _ (omega arith)
+        | else-not-in_class w ↦ λ e. run-to (run-next (l.invariant.1 (sym w.other-is ∙ e))
+            (sym c.in_class.ensures ∙ w.if-not-in_class.false)) _ (omega arith)
       ],
     )
 

@@ -37,8 +37,10 @@ loop-again c =
     let e = c.lower.ensures in (
       omega arith,
       ⊎_elim
-          (λ w. rw w.differs-is (compared-not l.differs a.word.now s l.i l.invariant.1 (omega arith) (omega arith) (λ p. w.if-lower-word.true (e ∙ sym (p ∙ q)))))
-          (λ w. rw w.differs-is (compared-next l.differs a.word.now s l.i l.invariant.1 (omega arith) (omega arith) (sym (q ∙ sym e ∙ w.if-lower-word.false))))
+          (λ w. rw w.differs-is (compared-not l.differs a.word.now s l.i l.invariant.1 (omega arith) (omega arith)
+          (λ p. w.if-lower-word.true (e ∙ sym (p ∙ q)))))
+          (λ w. rw w.differs-is (compared-next l.differs a.word.now s l.i l.invariant.1 (omega arith) (omega arith)
+          (sym (q ∙ sym e ∙ w.if-lower-word.false))))
           c.if-lower-word.branch-raw,
     )
 

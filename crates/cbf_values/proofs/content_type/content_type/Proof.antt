@@ -38,7 +38,8 @@ returns-2 c =
     let f = a.file.now in
     let e = ends c.before in
     c.later_parts.ensures
-    ∙ ap whole_of (later-start f c.in-At.p a.to ∙ sym (first-free (joined (slice a.from c.in-At.p f)) (following f c.in-At.p a.to)) ∙ sym (ap content_type e.0))
+    ∙ ap whole_of (later-start f c.in-At.p a.to ∙ sym (first-free (joined (slice a.from c.in-At.p f))
+    (following f c.in-At.p a.to)) ∙ sym (ap content_type e.0))
 
 pub content_type_spec : {M : Type 1} → statement M
 content_type_spec =

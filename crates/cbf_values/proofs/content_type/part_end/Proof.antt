@@ -27,7 +27,8 @@ returns c =
     let a = c.args in
     let l = c.loop-i in
     let closed : l.quoted ≡ false =
-    ⊎_elim (λ w. absurd (omega (arith, w.if-b-eq34.true, c.if-b-eq59.true))) (λ w. sym w.quoted-is ∙ c.if-not-quoted.true) c.if-b-eq34.branch-raw in (
+    ⊎_elim (λ w. absurd (omega (arith, w.if-b-eq34.true, c.if-b-eq59.true)))
+    (λ w. sym w.quoted-is ∙ c.if-not-quoted.true) c.if-b-eq34.branch-raw in (
       part-ends a.file.now a.at l.i l.quoted l.invariant.0 l.invariant.2 a.to (omega arith) (omega arith)
           closed c.if-b-eq59.true,
       l.invariant.0,
