@@ -7,8 +7,7 @@ use Rattle.cbf_lines.proofs.closing.after_span.Tie as tie
 
 semicolon-line-requires : tie.Need-semicolon_line-requires
 semicolon-line-requires c κs =
-    let s = c.before.before.before.before.before in
-    line-end-inside s.args.file.now s.args.at s.requires (sym c.in-At.is ∙ c.line_end-end.ensures)
+    line-end-inside c.args.file.now c.args.at c.requires (sym c.in-At.is ∙ c.line_end-end.ensures)
 
 returns : tie.Need-returns-in-Missing
 returns c =

@@ -19,5 +19,4 @@ closed_spec =
     (omega arith) (sym c.is_word.ensures ∙ c.if-not-is_word.false) r (sym e ∙ c.after_span-after.ensures) in
     tie.close
     (tie.spec
-
-    (λ c κs. search rules) (λ c. search rules) (λ c. search rules) (λ c. let s = c.before.before.before.before.before in line-end-inside s.args.file.now s.args.at s.requires (ended c.before)) (λ c. let a = c.args in closed-short a.file.now a.limit     a.at (ended c.before.before) c.if-file-i-lt-CLOSING_LENGTH.true) (λ c. search rules) (λ c κs. search rules) (λ c. let a = c.args in closed-other     a.file.now a.limit a.at (ended c.before.before.before.before.before) refl (omega arith)     (sym c.is_word.ensures ∙ c.if-not-is_word.true)) (λ c κs. search rules) (λ c. search rules) (λ c. search rules) (λ c. let a = c.args in closed-no-end a.file.now a.limit a.at     (sym c.in-Missing.is ∙ c.line_end-end.ensures)) (λ c. closes c.before.before _ c.in-Missing-after.is) (λ c. closes c.before.before.before _ c.in-At-after.is))
+    (λ c κs. search rules) (λ c. search rules) (λ c. search rules) (λ c. line-end-inside c.args.file.now c.args.at c.requires (ended c)) (λ c. let a = c.args in closed-short a.file.now a.limit a.at (ended c.before) c.if-file-i-lt-CLOSING_LENGTH.true) (λ c. search rules) (λ c κs. search rules) (λ c. let a = c.args in closed-other a.file.now a.limit a.at (ended c.before.before.before.before.before) refl (omega arith) (sym c.is_word.ensures ∙ c.if-not-is_word.true)) (λ c κs. search rules) (λ c. search rules) (λ c. search rules) (λ c. let a = c.args in closed-no-end a.file.now a.limit a.at (sym c.in-Missing.is ∙ c.line_end-end.ensures)) (λ c. closes c.before _ c.in-Missing-after.is) (λ c. closes c.before _ c.in-At-after.is))

@@ -38,7 +38,7 @@ returns-5 c =
     let a = c.args in
     let s = drop a.at a.file.now in
     line-end-there a.at s
-    (subst (Ends s) (⊎_elim (λ w. one_byte a.file.now (a.at + 1) (omega arith) w.2.left)
+    (subst (Ends s) (⊎_elim (λ w. one_byte a.file.now (a.at + 1) (omega arith) w.if-file-at-eq10-2.false)
     (λ w. no_byte a.file.now (a.at + 1) (omega arith)) c.if-left-ge2.branch-raw)
     (at-13 a.file.now a.at (omega arith) c.if-file-at-ne13.false))
 

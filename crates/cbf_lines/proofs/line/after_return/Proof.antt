@@ -19,7 +19,7 @@ returns-2 c =
     let file = a.file.now in (
       ap (λ (n : ℕ). a.i + n)
           (sym
-          (⊎_elim (λ w. return-one file a.i (omega arith) w.2.left) (λ w. return-end file a.i (omega arith)) c.if-file-i-ge2.branch-raw)),
+          (⊎_elim (λ w. return-one file a.i (omega arith) w.if-file-i-eq10.false) (λ w. return-end file a.i (omega arith)) c.if-file-i-ge2.branch-raw)),
       omega arith,
     )
 

@@ -79,7 +79,8 @@ returns-8 c = λ t n l.
     let i = c.after_blanks-i.result in
     let a = get_or file i 0 in
     let v : (eqb a 48 || eqb a 49) ≡ true =
-    ⊎_elim (λ w. rw (ne_eqb a 48 w.0.taken, eq-eqb a 49 w.1.left)) (λ w. rw (eq-eqb a 48 w.left)) c.if-version-ne48.branch-raw in
+    ⊎_elim (λ w. rw (ne_eqb a 48 w.if-version-ne48.true, eq-eqb a 49 w.if-version-ne49.false))
+    (λ w. rw (eq-eqb a 48 w.if-version-ne48.false)) c.if-version-ne48.branch-raw in
     sym (version c.before.before.before.before.before.before t n l ∙ rw (
       v,
       eq-eqb (get_or file (i + 1) 0) 46
@@ -91,5 +92,4 @@ pub identified_spec : {M : Type 1} → statement M
 identified_spec =
     tie.close
     (tie.spec
-
     returns (λ c κs. search rules) returns-2 (λ c. search rules) (λ c κs. search rules) returns-3 (λ c κs. search rules) (λ c. search rules) returns-4 (λ c. search rules) returns-5 (λ c. search rules) (λ c. search rules) returns-6 (λ c. search rules) (λ c. search rules) returns-7 returns-8)

@@ -1,4 +1,3 @@
-use borrow.Author.Tests.{not-true, not-false}
 use mathlib.Core.Path.{sym, ◌∙◌}
 use mathlib.Core.Logic.{⊎_elim}
 use Prim.Native.Nat.{◌-◌, ◌≤◌}
@@ -30,7 +29,8 @@ loop-again : tie.Need-loop-i-preserved invariant-loop decreases-loop
 loop-again c = (
   omega arith,
   run-next c.loop-i.invariant.1
-      (⊎_elim (λ w. sym w.1.ensures ∙ not-false _ w.2.left) (λ w. small-letter _ w.0.left w.1.left) c.if-b-lt97.branch-raw),
+      (⊎_elim (λ w. sym w.name_byte.ensures ∙ w.if-not-name_byte.false)
+      (λ w. small-letter _ w.if-b-lt97.false w.if-b-gt122.false) c.if-b-lt97.branch-raw),
 )
 
 returns-3 : tie.Need-returns invariant-loop decreases-loop

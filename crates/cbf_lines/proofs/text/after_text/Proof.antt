@@ -27,8 +27,8 @@ returns-2 c = run-stop c.loop-i.invariant.1 (omega arith) (λ h. text-over _ c.i
 loop-again : tie.Need-loop-i-preserved invariant-loop decreases-loop
 loop-again c = (
   omega arith,
-  run-next c.loop-i.invariant.1 (⊎_elim (λ w. ap textual w.1.left)
-      (λ w. text-between _ w.0.left w.1.left) c.if-b-lt32.branch-raw),
+  run-next c.loop-i.invariant.1 (⊎_elim (λ w. ap textual w.if-b-ne9.false)
+      (λ w. text-between _ w.if-b-lt32.false w.if-b-gt126.false) c.if-b-lt32.branch-raw),
 )
 
 returns-3 : tie.Need-returns invariant-loop decreases-loop

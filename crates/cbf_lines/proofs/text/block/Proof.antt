@@ -1,13 +1,13 @@
-use borrow.Author.Tests.{not-true, not-false}
+use borrow.Author.Tests.{not-true}
 use mathlib.Core.Path.{◌≡◌, sym, ◌∙◌}
 use mathlib.Core.Bool.{false, true≢false}
-use mathlib.Core.Logic.{⊎_elim}
 use Prim.Native.Nat.{◌+◌, ◌-◌, ◌≤◌}
 use native.Mathlib.Omega.{arith}
 use borrow.Author.Rules.{rules}
 use Rattle.cbf_lines.specs.Text.{Run, in_class}
 use Rattle.cbf_lines.proofs.TextLaws.{run-start, run-next, run-to}
 use Rattle.cbf_lines.proofs.text.block.Statement.{statement}
+use Rattle.cbf_lines.proofs.text.block.Lts.{then-not-in_class, else-not-in_class}
 use Rattle.cbf_lines.proofs.text.block.Tie as tie
 
 abbrev invariant-loop : tie.invariant-loop-j
@@ -23,9 +23,10 @@ loop-again : tie.Need-loop-j-preserved invariant-loop decreases-loop
 loop-again c =
     let l = c.loop-j in (
       omega arith,
-      ⊎_elim (λ w e. absurd (true≢false (sym w.1 ∙ e)))
-          (λ w e. run-to (run-next (l.invariant.1 (sym w.1 ∙ e)) (sym c.in_class.ensures ∙ not-false _ w.0.left)) _ (omega arith))
-          c.if-not-in_class.branch-raw,
+      elim c.if-not-in_class.branch [
+        | then-not-in_class w ↦ λ e. absurd (true≢false (sym w.other-is ∙ e))
+        | else-not-in_class w ↦ λ e. run-to (run-next (l.invariant.1 (sym w.other-is ∙ e)) (sym c.in_class.ensures ∙ w.if-not-in_class.false)) _ (omega arith)
+      ],
     )
 
 returns : tie.Need-returns invariant-loop decreases-loop

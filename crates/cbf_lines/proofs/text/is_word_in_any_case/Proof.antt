@@ -29,26 +29,24 @@ loop-holds c = (omega arith, refl)
 
 loop-again : tie.Need-loop-i-preserved invariant-loop decreases-loop
 loop-again c =
-    let st = c.before.before.before.before.before.before.before.before.before in
-    let a = st.args in
+    let a = c.args in
     let s = lowers (slice a.from a.to a.file.now) in
-    let n = length-lowered a.from a.to a.file.now st.requires.1 in
+    let n = length-lowered a.from a.to a.file.now c.requires.1 in
     let l = c.loop-i in
     let q = lowers_at a.from a.to a.file.now l.i (omega arith) in
     let e = c.lower.ensures in (
       omega arith,
       ⊎_elim
-          (λ w. rw w.1 (compared-not l.differs a.word.now s l.i l.invariant.1 (omega arith) (omega arith) (λ p. w.0.taken (e ∙ sym (p ∙ q)))))
-          (λ w. rw w.1 (compared-next l.differs a.word.now s l.i l.invariant.1 (omega arith) (omega arith) (sym (q ∙ sym e ∙ w.0.left))))
+          (λ w. rw w.differs-is (compared-not l.differs a.word.now s l.i l.invariant.1 (omega arith) (omega arith) (λ p. w.if-lower-word.true (e ∙ sym (p ∙ q)))))
+          (λ w. rw w.differs-is (compared-next l.differs a.word.now s l.i l.invariant.1 (omega arith) (omega arith) (sym (q ∙ sym e ∙ w.if-lower-word.false))))
           c.if-lower-word.branch-raw,
     )
 
 returns-2 : tie.Need-returns invariant-loop decreases-loop
 returns-2 c =
-    let st = c.before.before.before.before.before in
-    let a = st.args in
+    let a = c.args in
     let s = lowers (slice a.from a.to a.file.now) in
-    let n = length-lowered a.from a.to a.file.now st.requires.1 in
+    let n = length-lowered a.from a.to a.file.now c.requires.1 in
     let l = c.loop-i in
     sym (compared-end l.differs a.word.now s l.i l.invariant.1 (omega arith) (omega arith))
 
