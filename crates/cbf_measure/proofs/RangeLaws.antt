@@ -1,6 +1,5 @@
 -- Ranges from 0, or from -1 - limit, to limit: what the or of pixels says of them, that a type's range is one, and
 -- the octets of pixels as words. Assumes nothing.
-use mir.Syntax.{w64}
 use Rattle.std.proofs.Common.{◌≡◌, ℕ, zero, suc, ◌+◌, ◌-◌, ◌*◌, ◌%◌, ◌^◌, ◌<◌, ◌≤◌, Bool, true, false, cond, ltb, leb, List, ◌∷◌, length, get_or, take, set, ℤ, pos, negsuc, ◌+ℤ◌, ◌-ℤ◌, neg_ℤ, nat_abs, sym, refl, ap, ◌∙◌, subst, ap₂, add-one, arith, length-append, length-set, drop-cons, get_or-set_other, get_or-set_same, to_z-of_z, w32, to_z, of_z, below_more, ltb-false, ltb-true, le-ltb, lt-ltb, le-leb, leb-true}
 use lib.Bits.{bit_or}
 use lib.Seq.{take-length}
@@ -183,7 +182,7 @@ word_small n h = go (ltb n 2147483648) refl
     go false p = let x = ltb-false n 2147483648 p in omega (arith, ap mag (subℕ-pos n 2147483648 x))
 
 pub held-32 : (z : ℤ) → mag z < 2 ^ 31 → to_z w32 (of_z w32 z) ≡ z
-held-32 z h = to_z-of_z {w = w64} (record { sfits = h })
+held-32 z h = to_z-of_z {w = w32} (record { sfits = h })
 
 pub word_held : (n : ℕ) {w : ℤ} → w ≡ sub_ℕ (n % 2 ^ 32) 2147483648 → to_z w32 (of_z w32 w) ≡ sub_ℕ (n % 2 ^ 32) 2147483648
 word_held n e = ap (λ (z : ℤ). to_z w32 (of_z w32 z)) e ∙ held-32 (sub_ℕ (n % 2 ^ 32) 2147483648) (word_small (n % 2 ^ 32) (omega arith))

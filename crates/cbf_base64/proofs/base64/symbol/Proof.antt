@@ -63,7 +63,7 @@ returns-5 : tie.Need-returns-in-48-to-57
 unfolding symbol
 returns-5 c =
     let x = c.args.b in
-    let n : x ≡ 47 → ⊥ = c.in_default-1.rest.0.0.1 in
+    let n : x ≡ 47 → ⊥ = c.in-48-to-57.in_default-own.rest.0.0.1 in
     rw (outside 65 90 x (λ h l. omega arith), outside 97 122 x (λ h l. omega arith), within 48 57 x (omega arith) (omega arith))
 
 returns-6 : tie.Need-returns-in-65-to-90
@@ -77,22 +77,22 @@ returns-7 c =
     rw (outside 65 90 x (λ h l. omega arith), within 97 122 x (omega arith) (omega arith))
 
 returns-8 : tie.Need-returns-in_default
-returns-8 c = other c.args.b c.in_default-1.rest (λ h l. omega arith) (λ h l. omega arith) (λ h l. omega arith)
+returns-8 c = other c.args.b c.in_default.in_default-own.rest (λ h l. omega arith) (λ h l. omega arith) (λ h l. omega arith)
 
 returns-9 : tie.Need-returns-in_default-2
 returns-9 c =
-    other c.args.b c.in_default-1.rest (λ h l. omega arith) (λ h l. omega arith) (λ h l. omega arith)
+    other c.args.b c.in_default.in_default-own.rest (λ h l. omega arith) (λ h l. omega arith) (λ h l. omega arith)
 
 returns-10 : tie.Need-returns-in_default-3
 returns-10 c =
     other c.args.b
-    c.in_default-1.rest (λ h l. omega arith) (λ h l. omega arith)
+    c.in_default.in_default-own.rest (λ h l. omega arith) (λ h l. omega arith)
     (λ h l. omega arith)
 
 returns-11 : tie.Need-returns-in_default-4
 returns-11 c =
     other c.args.b
-    c.in_default-1.rest (λ h l. omega arith) (λ h l. omega arith)
+    c.in_default.in_default-own.rest (λ h l. omega arith) (λ h l. omega arith)
     (λ h l. omega arith)
 
 pub symbol_spec : {M : Type 1} → statement M

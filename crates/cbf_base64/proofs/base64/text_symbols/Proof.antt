@@ -22,6 +22,7 @@ use Rattle.cbf_base64.proofs.Base64Laws.{bytes_next, bytes-end, symbol-count, le
 use Rattle.cbf_base64.proofs.Base64Laws.{letters-run}
 use Rattle.cbf_base64.proofs.base64.text_symbols.Statement.{statement}
 use Rattle.cbf_base64.proofs.base64.text_symbols.Tie as tie
+use Rattle.cbf_base64.proofs.base64.text_symbols.Lts.{then-from-run, else-from-run}
 
 -- the last arm: a letter, a pad or a blank
 known : (s : Symbol) → OneOf (0 ∷ 1 ∷ 2 ∷ []) (tag_of the_type s) → is_other s ≡ false
@@ -53,14 +54,16 @@ module _ (c : tie.Joined-from-run invariant-loop decreases-loop) where
       let a = c.args in
       let m = c.after_blocks-run.result in
       let run = c.after_blocks-run.ensures.1 in
-      ⊎_elim
-      (λ w. let t = w.0.taken in rw (w.3 ∙ w.2.ensures) (omega (
-        arith,
-        letters-count a.g (m - a.from)
-            (symbol (get_or a.file.now (m - 1) 0)) (run.each (m - 1) (omega arith) (omega arith)),
-      )))
-      (λ w. rw w.1 (omega arith))
-      c.if-from-run.branch-raw
+      elim c.if-from-run.branch [
+        | then-from-run w ↦
+            let t = w.if-from-run.true in
+            rw (w.h-is ∙ w.with_letters-h.ensures) (omega (
+              arith,
+              letters-count a.g (m - a.from)
+                  (symbol (get_or a.file.now (m - 1) 0)) (run.each (m - 1) (omega arith) (omega arith)),
+            ))
+        | else-from-run w ↦ rw w.h-is (omega arith)
+      ]
 
   in-front : let a = c.args in let m = c.after_blocks-run.result in (j : ℕ) → m ≤ j → j ≤ length a.file.now
       → bytes_from c.if-from-run.h (slice m j a.file.now) ≡ bytes_from a.g (slice a.from j a.file.now)
@@ -68,12 +71,17 @@ module _ (c : tie.Joined-from-run invariant-loop decreases-loop) where
       let a = c.args in
       let m = c.after_blocks-run.result in
       let run = c.after_blocks-run.ensures.1 in
-      ⊎_elim
-      (λ w. ap (λ (g : Groups). bytes_from g (slice m j a.file.now)) (w.3 ∙ w.2.ensures) ∙ letters-run run a.g j w.0.taken h k)
-      (λ w. let l = w.0.left in let low = run.low in let e : m ≡ a.from = omega arith in ap
-      (λ (g : Groups). bytes_from g (slice m j a.file.now)) w.1
-      ∙ ap (λ (i : ℕ). bytes_from a.g (slice i j a.file.now)) e)
-      c.if-from-run.branch-raw
+      elim c.if-from-run.branch [
+        | then-from-run w ↦
+            ap (λ (g : Groups). bytes_from g (slice m j a.file.now)) (w.h-is ∙ w.with_letters-h.ensures)
+            ∙ letters-run run a.g j w.if-from-run.true h k
+        | else-from-run w ↦
+            let l = w.if-from-run.false in
+            let low = run.low in
+            let e : m ≡ a.from = omega arith in
+            ap (λ (g : Groups). bytes_from g (slice m j a.file.now)) w.h-is
+            ∙ ap (λ (i : ℕ). bytes_from a.g (slice i j a.file.now)) e
+      ]
 
 loop-holds : tie.Need-loop-i-init invariant-loop decreases-loop
 loop-holds c = (omega arith, few c, run-symbolic c.after_blocks-run.ensures.1, (λ j h k. refl), omega arith)
@@ -93,7 +101,7 @@ so_far c stop =
 
 returns : tie.Need-returns-in-Other invariant-loop decreases-loop
 returns c =
-    so_far c.before.before.before.before.before (λ h. byte-other _ c.symbol-s.result
+    so_far c.before.before.before.before (λ h. byte-other _ c.symbol-s.result
     c.symbol-s.ensures c.in-Other.is)
 
 loop-again : tie.Need-loop-i-preserved invariant-loop decreases-loop
@@ -107,7 +115,7 @@ loop-again c =
       omega arith,
       rw e (omega (arith, symbol-count l.h s)),
       run-next l.invariant.2 (byte-known x c.symbol-s.result c.symbol-s.ensures
-          (known c.symbol-s.result c.in_default.keys2)),
+          (known c.symbol-s.result c.in_default.in_default-own.keys2)),
       (λ j h k. ap (λ (g : Groups). bytes_from g (slice (l.i + 1) j file)) e ∙ sym (bytes_next l.h file l.i j
           (omega arith) (omega arith)) ∙ l.invariant.3 j (omega arith) k),
       omega arith,

@@ -17,25 +17,22 @@ returns c =
 
 text-symbols-requires : tie.Need-text_symbols-s-requires
 text-symbols-requires c κs =
-    let s = c.before.before.before.before.before in
-    let a = s.args in
-    let f = far a.at a.limit (length a.file.now) c.farthest.result c.farthest.ensures s.requires.0 in
+    let a = c.args in
+    let f = far a.at a.limit (length a.file.now) c.farthest.result c.farthest.ensures c.requires.0 in
     (f.low, f.high, omega arith, omega (arith, f.high))
 
 ended-requires : tie.Need-ended-end-requires
 ended-requires c κs =
-    let s = c.before.before.before.before.before.before.before in
-    let a = s.args in
+    let a = c.args in
     let q = c.farthest in
-    let f = far a.at a.limit (length a.file.now) q.result q.ensures s.requires.0 in
+    let f = far a.at a.limit (length a.file.now) q.result q.ensures c.requires.0 in
     omega (arith, f.high, c.text_symbols-s.ensures.run.high)
 
 shared-slice-read-refused-number : tie.Need-bounds-file-to
 shared-slice-read-refused-number c =
-    let s = c.before.before.before.before.before.before.before.before.before.before.before in
-    let a = s.args in
+    let a = c.args in
     let q = c.farthest in
-    let f = far a.at a.limit (length a.file.now) q.result q.ensures s.requires.0 in
+    let f = far a.at a.limit (length a.file.now) q.result q.ensures c.requires.0 in
     let r = c.text_symbols-s.ensures.run in
     (ended-not a.file.now c.text_symbols-s.result.to (omega (arith, f.high, r.high))
     (sym c.in-Missing-end.is ∙ c.ended-end.ensures)).byte
@@ -45,11 +42,10 @@ sub-refused-number c = omega (arith, c.text_symbols-s.ensures.run.low)
 
 returns-2 : tie.Need-returns-in-At-end
 returns-2 c =
-    let s = c.before.before.before.before.before.before.before.before.before.before.before in
-    let a = s.args in
+    let a = c.args in
     let file = a.file.now in
     let q = c.farthest in
-    let f = far a.at a.limit (length file) q.result q.ensures s.requires.0 in
+    let f = far a.at a.limit (length file) q.result q.ensures c.requires.0 in
     let t = c.text_symbols-s in
     let m = sym c.in-Missing.is
     ∙ c.closing_line-close.ensures in
@@ -62,11 +58,10 @@ returns-2 c =
 
 returns-3 : tie.Need-returns-in-Missing-end
 returns-3 c =
-    let s = c.before.before.before.before.before.before.before.before.before.before.before.before in
-    let a = s.args in
+    let a = c.args in
     let file = a.file.now in
     let q = c.farthest in
-    let f = far a.at a.limit (length file) q.result q.ensures s.requires.0 in
+    let f = far a.at a.limit (length file) q.result q.ensures c.requires.0 in
     let t = c.text_symbols-s in
     let m = sym c.in-Missing.is
     ∙ c.closing_line-close.ensures in

@@ -19,8 +19,7 @@ decreases-loop file at limit g₀ next₀ g next = length file - next
 
 loop-holds : tie.Need-loop-next-init invariant-loop decreases-loop
 loop-holds c =
-    let s = c.before.before in
-    passed_none s.args.file.now s.args.at s.args.limit c.no_groups-g.result c.no_groups-g.ensures s.requires.0 s.requires.1
+    passed_none c.args.file.now c.args.at c.args.limit c.no_groups-g.result c.no_groups-g.ensures c.requires.0 c.requires.1
 
 base64-line-requires : tie.Need-base64_line-l-requires invariant-loop decreases-loop
 base64-line-requires c κs = let l = c.loop-next.invariant in (l.high, c.requires.1, l.few)
@@ -28,8 +27,7 @@ base64-line-requires c κs = let l = c.loop-next.invariant in (l.high, c.require
 returns : tie.Need-returns-in-Refused invariant-loop decreases-loop
 returns c =
     let l = c.loop-next in
-    let a = c.args in
-    (
+    let a = c.args in (
       passed-refused a.file.now a.at a.limit l.next l.g l.invariant (omega arith) c.in-Refused.r (sym c.in-Refused.is
           ∙ c.base64_line-l.ensures.0),
       omega arith,
@@ -38,12 +36,10 @@ returns c =
 returns-2 : tie.Need-returns-in-Closing invariant-loop decreases-loop
 returns-2 c =
     let l = c.loop-next in
-    let s = c.before.before.before.before.before.before.before.before in
-    let a = s.args in
-    (
+    let a = c.args in (
       passed-closing a.file.now a.at a.limit l.next l.g l.invariant (omega arith) c.in-Closing.after (sym c.in-Closing.is
           ∙ c.base64_line-l.ensures.0),
-      omega (arith, l.invariant.few, l.invariant.high, s.requires.1),
+      omega (arith, l.invariant.few, l.invariant.high, c.requires.1),
     )
 
 loop-less : tie.Need-loop-next-smaller invariant-loop decreases-loop

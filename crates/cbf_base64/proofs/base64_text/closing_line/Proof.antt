@@ -9,23 +9,20 @@ use Rattle.cbf_base64.proofs.base64_text.closing_line.Statement.{statement}
 use Rattle.cbf_base64.proofs.base64_text.closing_line.Tie as tie
 
 returns : tie.Need-returns-then-file-at-lt-CLOSING_LENGTH
-returns c = let s = c.before.before in closing-short s.args.file.now s.args.at s.requires c.if-file-at-lt-CLOSING_LENGTH.true
+returns c = closing-short c.args.file.now c.args.at c.requires c.if-file-at-lt-CLOSING_LENGTH.true
 
 returns-2 : tie.Need-returns-then-not-is_word
 returns-2 c =
-    let s = c.before.before.before.before.before in
-    closing-other s.args.file.now s.args.at s.requires (sym c.is_word.ensures ∙ c.if-not-is_word.true)
+    closing-other c.args.file.now c.args.at c.requires (sym c.is_word.ensures ∙ c.if-not-is_word.true)
 
 returns-3 : tie.Need-returns
 returns-3 c =
-    let s = c.before.before.before.before.before.before in
     let w = c.is_word in
-    closing-ended s.args.file.now s.args.at s.requires (s.args.at + 31) refl (omega arith) (sym w.ensures
+    closing-ended c.args.file.now c.args.at c.requires (c.args.at + 31) refl (omega arith) (sym w.ensures
     ∙ c.if-not-is_word.false) c.ended.result c.ended.ensures
 
 pub closing_line_spec : {M : Type 1} → statement M
 closing_line_spec =
     tie.close
     (tie.spec
-
     (λ c. search rules) returns (λ c. search rules) (λ c κs. search rules) returns-2 (λ c κs. search rules) returns-3)

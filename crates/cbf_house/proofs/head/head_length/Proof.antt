@@ -53,5 +53,6 @@ pub head_length_spec : {M : Type 1} → statement M
 head_length_spec =
     tie.close
     (tie.spec
-
-    (λ c κs. search rules) (λ c κs. search rules) (λ c. search rules) (λ c κs. search rules) (λ c κs. search rules) (λ c κs. search rules) (λ c κs. search rules) (λ c κs. search rules) add-result add-result-2 add-result-3 add-result-4 add-result-5 add-result-6 returns)
+    (λ c κs. search rules) (λ c κs. search rules) (λ c. search rules) (λ c κs. search rules)
+    (λ c κs. search rules) (λ c κs. search rules) (λ c κs. search rules) (λ c κs. search rules)
+    add-result add-result-2 add-result-3 add-result-4 add-result-5 add-result-6 returns)

@@ -20,7 +20,7 @@ none_yet s = let a = s.args in written_none (head_pieces a.d a.size) (head-piece
 -- after a call: where the function started, and what is written
 
 abbrev start-1 : tie.After-put_text-after_opening → tie.Start
-start-1 c = c.before.before.before.before
+start-1 c = c.before.before.before.before.before
 
 after-1 : (c : tie.After-put_text-after_opening) → Pieces (start-1 c) 1 c.put_text-after_opening.result c.put_text-after_opening.new.out
 after-1 c = written-more (none_yet c.before.before.before.before.before) c.put_text-after_opening.ensures
@@ -139,5 +139,6 @@ pub put_head_spec : {M : Type 1} → statement M
 put_head_spec =
     tie.close
     (tie.spec
-
-    put-text-requires put-text-requires-2 put-line-requires put-optional-requires put-text-requires-3 put-type-requires put-text-requires-4 put-line-requires-2 put-optional-requires-2 put-optional-requires-3 put-optional-requires-4 put-text-requires-5 same_length returns)
+    put-text-requires put-text-requires-2 put-line-requires put-optional-requires put-text-requires-3
+    put-type-requires put-text-requires-4 put-line-requires-2 put-optional-requires-2 put-optional-requires-3
+    put-optional-requires-4 put-text-requires-5 same_length returns)

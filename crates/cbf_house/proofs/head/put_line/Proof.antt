@@ -41,5 +41,4 @@ pub put_line_spec : {M : Type 1} → statement M
 put_line_spec =
     tie.close
     (tie.spec
-
     put-text-requires put-number-requires put-text-requires-2 (λ c. search rules) returns)

@@ -70,5 +70,4 @@ pub put_span_spec : {M : Type 1} → statement M
 put_span_spec =
     tie.close
     (tie.spec
-
     put-head-requires write-octets-requires put-text-requires put-text-requires-2 (λ c. search rules) returns)

@@ -9,6 +9,7 @@ use Rattle.cbf_letters.specs.Octets.{LettersOnly}
 use Rattle.cbf_letters.proofs.LettersLaws.{each_next}
 use Rattle.cbf_letters.proofs.letters.all_letters.Statement.{statement}
 use Rattle.cbf_letters.proofs.letters.all_letters.Tie as tie
+use Rattle.cbf_letters.proofs.letters.all_letters.Lts.{then-not-letter, else-not-letter}
 
 abbrev invariant-loop : tie.invariant-loop-j
 invariant-loop file at n other₀ j₀ other j = (j ≤ n) × (other ≡ false → LettersOnly file at (at + j))
@@ -26,9 +27,12 @@ loop-again : tie.Need-loop-j-preserved invariant-loop decreases-loop
 loop-again c =
     let l = c.loop-j in (
       omega arith,
-      ⊎_elim (λ w e. absurd (true≢false (sym w.1 ∙ e)))
-          (λ w e i h k. each_next (l.invariant.1 (sym w.1 ∙ e)) (sym c.letter.ensures ∙ not-false _ w.0.left) i h (omega arith))
-          c.if-not-letter.branch-raw,
+      elim c.if-not-letter.branch [
+        | then-not-letter w ↦ λ e. absurd (true≢false (sym w.other-is ∙ e))
+        | else-not-letter w ↦
+            λ e i h k.
+            each_next (l.invariant.1 (sym w.other-is ∙ e)) (sym c.letter.ensures ∙ w.if-not-letter.false) i h (omega arith)
+      ],
     )
 
 returns : tie.Need-returns invariant-loop decreases-loop

@@ -16,8 +16,8 @@ returns : tie.Need-returns-then-i-to
 returns c =
     let a = c.args in
     let i = c.next_place-i.result in
-    let n = c.number_of_lem.result in
-    let e = c.number_of_lem.ensures in
+    let n = c.number_of.result in
+    let e = c.number_of.ensures in
     record {
       low = omega arith;
       high = omega arith;

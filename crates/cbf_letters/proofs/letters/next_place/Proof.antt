@@ -25,11 +25,10 @@ returns c = let v = c.loop-i.invariant in (v.0, v.1, v.2, λ h. sym c.letter.ens
 
 loop-again : tie.Need-loop-i-preserved invariant-loop decreases-loop
 loop-again c =
-    let s = c.before.before.before.before.before.before in
     let l = c.loop-i in (
       omega arith,
       omega arith,
-      l.invariant.2 ∙ sixes-other s.args.file.now l.i s.args.to (omega arith)
+      l.invariant.2 ∙ sixes-other c.args.file.now l.i c.args.to (omega arith)
           (omega arith) (sym c.letter.ensures ∙ c.if-letter.false),
     )
 

@@ -12,13 +12,22 @@ use Rattle.cbf_letters.proofs.letters.number_of.Tie as tie
 
 -- the number after each test
 first : (c : tie.Joined-b-gt46) → let b = c.args.b in (c.if-b-gt46.n ≡ lowered 46 b 3 (b + 19)) × (b + 19 ≤ c.if-b-gt46.n + 3)
-first c = by-test 46 c.args.b 3 (c.args.b + 19) c.if-b-gt46.branch-raw (λ w. (w.0.taken, w.1)) (λ w. (w.0.left, w.1))
+first c =
+    by-test 46 c.args.b 3 (c.args.b + 19) c.if-b-gt46.branch-raw
+    (λ w. (w.if-b-gt46.true, w.n-is))
+    (λ w. (w.if-b-gt46.false, w.n-is))
 
 second : (c : tie.Joined-b-gt47) → (c.if-b-gt47.n ≡ lowered 47 c.args.b 12 c.if-b-gt46.n) × (c.if-b-gt46.n ≤ c.if-b-gt47.n + 12)
-second c = by-test 47 c.args.b 12 c.if-b-gt46.n c.if-b-gt47.branch-raw (λ w. (w.0.taken, w.2)) (λ w. (w.0.left, w.1))
+second c =
+    by-test 47 c.args.b 12 c.if-b-gt46.n c.if-b-gt47.branch-raw
+    (λ w. (w.if-b-gt47.true, w.n-is))
+    (λ w. (w.if-b-gt47.false, w.n-is))
 
 third : (c : tie.Joined-b-gt64) → (c.if-b-gt64.n ≡ lowered 64 c.args.b 69 c.if-b-gt47.n) × (c.if-b-gt47.n ≤ c.if-b-gt64.n + 69)
-third c = by-test 64 c.args.b 69 c.if-b-gt47.n c.if-b-gt64.branch-raw (λ w. (w.0.taken, w.2)) (λ w. (w.0.left, w.1))
+third c =
+    by-test 64 c.args.b 69 c.if-b-gt47.n c.if-b-gt64.branch-raw
+    (λ w. (w.if-b-gt64.true, w.n-is))
+    (λ w. (w.if-b-gt64.false, w.n-is))
 
 -- the number before the last test
 last : (c : tie.Joined-b-gt64) → let b = c.args.b in symbol b ≡ Letter (lowered 96 b 6 c.if-b-gt64.n)

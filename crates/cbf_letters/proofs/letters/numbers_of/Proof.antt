@@ -28,8 +28,8 @@ loop-again c =
     let s = c.args in
     let l = c.loop-j in (
       omega arith,
-      length-set l.numbers l.j c.number_of_lem.result ∙ l.invariant.1,
-      finished-next s.file.now l.numbers s.at s.n l.j c.number_of_lem.result (omega arith) (omega arith) c.number_of_lem.ensures ∙ l.invariant.2,
+      length-set l.numbers l.j c.number_of.result ∙ l.invariant.1,
+      finished-next s.file.now l.numbers s.at s.n l.j c.number_of.result (omega arith) (omega arith) c.number_of.ensures ∙ l.invariant.2,
     )
 
 same_length : tie.Need-shape_of-numbers invariant-loop decreases-loop

@@ -30,9 +30,8 @@ next-place-requires c κs =
 
 -- up to the next letter nothing is written
 past : (c : tie.After-next_place-i invariant-loop decreases-loop)
-    → let t = c.before.before in
-    let a = t.args in
-    Decodes a.file.now a.at a.to a.out.now a.from t.loop-out.out c.next_place-i.result t.loop-out.k
+    → let a = c.args in
+    Decodes a.file.now a.at a.to a.out.now a.from c.loop-out.out c.next_place-i.result c.loop-out.k
 past c =
     let d = c.loop-out.invariant in
     let e = c.next_place-i.ensures in

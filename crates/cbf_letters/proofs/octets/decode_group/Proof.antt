@@ -16,13 +16,9 @@ next-letter-requires-4 c κs = (omega arith, omega arith, λ i h k. c.requires.2
 
 returns : tie.Need-returns
 returns c =
-    let last = c.before.before.before.before in
-    let third = last.before in
-    let second = third.before in
-    let first = second.before in
-    let p = first.requires in
-    decodes-group p.0 p.1 p.3 first.next_letter-a.ensures second.next_letter-b.ensures
-    third.next_letter-c.ensures last.next_letter-d.ensures
+    let p = c.requires in
+    decodes-group p.0 p.1 p.3 c.next_letter-a.ensures c.next_letter-b.ensures
+    c.next_letter-c.ensures c.next_letter-d.ensures
     p.4
     c.put_group.ensures
 

@@ -23,17 +23,16 @@ run : (c : tie.After-after_letters-next)
     → let a = c.args in
     LetterRun a.file.now a.at a.to (c.after_letters-next.result - a.at) a.out.now a.from
 run c =
-    let t = c.before.before.before.before.before.before in
     let p = c.after_letters.ensures in
     let q = c.after_letters-next.ensures in
-    let e : c.after_letters-next.result ≡ t.args.at + (c.after_letters-next.result - t.args.at) = omega arith in
+    let e : c.after_letters-next.result ≡ c.args.at + (c.after_letters-next.result - c.args.at) = omega arith in
     record {
       within = omega arith;
       inside = omega arith;
       few = omega arith;
       room = omega arith;
       groups = omega arith;
-      only = rw (← e) (letters-both t.args.file.now t.args.at c.after_letters.result
+      only = rw (← e) (letters-both c.args.file.now c.args.at c.after_letters.result
           c.after_letters-next.result p.0 q.0 p.2 q.2);
     }
 
@@ -43,14 +42,14 @@ numbers-of-requires c κs = let r = run c.before in (omega arith, r.only, r.few)
 join-requires : tie.Need-join-requires
 join-requires c κs =
     let r = run c.before.before.before.before.before in
-    (omega arith, numbers-small r (replicate 128 0) refl c.Numbers-of.ensures, omega (arith, r.room))
+    (omega arith, numbers-small r (replicate 128 0) refl c.numbers_of.ensures, omega (arith, r.room))
 
 returns : tie.Need-returns
 returns c =
     let r = run c.before.before.before.before.before.before.before.before in (
       r.groups,
       decodes-run r (replicate 128 0) refl
-          c.Numbers-of.ensures c.join.ensures,
+          c.numbers_of.ensures c.join.ensures,
     )
 
 pub decode_run_spec : {M : Type 1} → statement M

@@ -21,18 +21,16 @@ loop-holds c = (omega arith, refl, refl)
 
 put-group-requires : tie.Need-put_group-requires invariant-loop decreases-loop
 put-group-requires c κs =
-    let t = c.before.before.before.before.before.before in
-    let small = t.requires.1 in
-    let i = 4 * t.loop-j.j in
+    let small = c.requires.1 in
+    let i = 4 * c.loop-j.j in
     (small i (omega arith), small (i + 1) (omega arith), small (i + 2) (omega arith), small (i + 3) (omega arith), omega arith)
 
 loop-again : tie.Need-loop-j-preserved invariant-loop decreases-loop
 loop-again c =
-    let t = c.before.before.before.before.before.before.before.before.before in
-    let a = t.args in (
+    let a = c.args in (
       omega arith,
-      c.put_group.auto.1.1.1.1.0 ∙ t.loop-j.invariant.1,
-      join-turn a.numbers.now a.out.now a.at t.loop-j.j (omega arith) t.loop-j.invariant.2 c.put_group.ensures,
+      c.put_group.auto.out ∙ c.loop-j.invariant.1,
+      join-turn a.numbers.now a.out.now a.at c.loop-j.j (omega arith) c.loop-j.invariant.2 c.put_group.ensures,
     )
 
 same_length : tie.Need-shape_of-out invariant-loop decreases-loop

@@ -8,10 +8,10 @@ use Rattle.cbf_measure.proofs.measure.above.Tie as tie
 
 -- a word in 64 bits
 widened : (z : ℤ) → SFits w32 z → SFits w64 (to_z w32 (of_z w32 z))
-widened z f = record { sfits = subst (λ (y : ℤ). mag y < 2 ^ 63) (sym (to_z-of_z {w = w64} f)) (omega (arith, f.sfits)) }
+widened z f = record { sfits = subst (λ (y : ℤ). mag y < 2 ^ 63) (sym (to_z-of_z {w = w32} f)) (omega (arith, f.sfits)) }
 
 widened_is : (z : ℤ) → SFits w32 z → to_z w64 (of_z w64 (to_z w32 (of_z w32 z))) ≡ z
-widened_is z f = to_z-of_z {w = w64} (widened z f) ∙ to_z-of_z {w = w64} f
+widened_is z f = to_z-of_z {w = w64} (widened z f) ∙ to_z-of_z {w = w32} f
 
 cast-result : tie.Need-overflow_cast-result
 cast-result c = widened c.args.y c.ranges.y

@@ -1,9 +1,10 @@
-use Rattle.std.proofs.Common.{◌≡◌, ℕ, ◌+◌, ◌-◌, ◌*◌, ◌≤◌, length, pos, sym, refl, ap, ◌∙◌, subst, ⊎_elim, arith, to_z-of_z, w64, to_z, rules}
+use Rattle.std.proofs.Common.{◌≡◌, ℕ, ◌+◌, ◌-◌, ◌*◌, ◌≤◌, length, pos, sym, refl, ap, ◌∙◌, subst, arith, to_z-of_z, w64, to_z, rules}
 use Rattle.cbf_measure.proofs.PartsLaws.{last-at}
 use Rattle.cbf_measure.proofs.MeasureLaws.{Measured, Added, added_more, added_out, all_none, all-inside}
 use Rattle.cbf_measure.proofs.MeasureLaws.{all-outside, window-size, held}
 use Rattle.cbf_measure.proofs.measure.octet_count.Statement.{statement}
 use Rattle.cbf_measure.proofs.measure.octet_count.Tie as tie
+use Rattle.cbf_measure.proofs.measure.octet_count.Lts.{then-n-eq0+else-m-eq0, else-n-eq0}
 
 abbrev invariant-loop : tie.invariant-loop-k
 invariant-loop pixels lo hi words₀ last₀ total₀ k₀ words last total k =
@@ -66,31 +67,37 @@ joined : (c : tie.Joined-n-eq0 invariant-loop decreases-loop) → Turn c c.if-n-
 joined c =
     let t = c.loop-k-test.true in
     let r = c.window_run-n in
-    ⊎_elim
-    (λ w. subst (Turn c) (sym w.7)
-    (record {
-      size = w.3.result;
-      takes = w.3.ensures.0.0;
-      inside = w.4.left;
-      sum = w.6;
-      some = w.1.ensures.2 (omega arith);
-      reach = omega (arith, w.1.ensures.0);
-      few = w.3.ensures.0.1;
-    }))
-    (λ w. subst (Turn c) (sym w.3)
-    (record {
-      size = r.result;
-      takes = window-size c.loop-k.invariant.0.typed r.ensures;
-      inside = w.0.left;
-      sum = w.2;
-      some = omega (arith, w.0.left);
-      reach = r.ensures.inside;
-      few = omega arith;
-    }))
-    c.if-n-eq0.branch-raw
+    elim c.if-n-eq0.branch [
+      | then-n-eq0+else-m-eq0 w ↦
+          subst (Turn c) (sym w.n-is)
+          (record {
+            size = w.size_of_part-m.result;
+            takes = w.size_of_part-m.ensures.0.0;
+            inside = w.if-m-eq0.false;
+            sum = w.total-is;
+            some = w.part-n.ensures.2 (omega arith);
+            reach = omega (arith, w.part-n.ensures.0);
+            few = w.size_of_part-m.ensures.0.1;
+          })
+      | else-n-eq0 w ↦
+          subst (Turn c) (sym w.n-is)
+          (record {
+            size = r.result;
+            takes = window-size c.loop-k.invariant.0.typed r.ensures;
+            inside = w.if-n-eq0.false;
+            sum = w.total-is;
+            some = omega (arith, w.if-n-eq0.false);
+            reach = r.ensures.inside;
+            few = omega arith;
+          })
+    ]
 
 long : (c : tie.Joined-n-eq0 invariant-loop decreases-loop) → length c.if-n-eq0.words ≡ 129
-long c = ⊎_elim (λ w. ap length w.5 ∙ w.3.ensures.1) (λ w. ap length w.1 ∙ c.loop-k.invariant.3) c.if-n-eq0.branch-raw
+long c =
+    elim c.if-n-eq0.branch [
+      | then-n-eq0+else-m-eq0 w ↦ ap length w.words-is ∙ w.size_of_part-m.ensures.1
+      | else-n-eq0 w ↦ ap length w.words-is ∙ c.loop-k.invariant.3
+    ]
 
 add-k : tie.Need-overflow_add-k invariant-loop decreases-loop
 add-k c = let A = joined c.before in omega (arith, c.before.before.before.before.before.before.before)

@@ -1,4 +1,4 @@
-use Rattle.std.proofs.Common.{◌≡◌, ◌%◌, ◌^◌, ◌<◌, ℤ, pos, ◌-ℤ◌, sym, ap, ◌∙◌, subst, arith, to_z-of_z, w64, to_z, rules}
+use Rattle.std.proofs.Common.{◌≡◌, ◌%◌, ◌^◌, ◌<◌, ℤ, pos, ◌-ℤ◌, sym, ap, ◌∙◌, subst, arith, to_z-of_z, w32, w64, to_z, rules}
 use lib.IntN.{sub_ℕ}
 use lib.Signed.{mag}
 use mir.Facts.{to_z_pos}
@@ -21,7 +21,7 @@ cast-result-2 : tie.Need-overflow_cast-result-2
 cast-result-2 c = record { sfits = subst (λ (z : ℤ). mag z < 2 ^ 31) (sym (to_z-of_z {w = w64} (sub-result c) ∙ is c)) (small c) }
 
 returns : tie.Need-returns
-returns c = to_z-of_z {w = w64} (cast-result-2 c) ∙ to_z-of_z {w = w64} (sub-result c) ∙ is c
+returns c = to_z-of_z {w = w32} (cast-result-2 c) ∙ to_z-of_z {w = w64} (sub-result c) ∙ is c
 
 pub word_of_spec : {M : Type 1} → statement M
 word_of_spec = tie.close (tie.spec (λ c. search rules) sub-result cast-result-2 returns)

@@ -7,32 +7,28 @@ use Rattle.cbf_pack.proofs.packing.pack_counted.Tie as tie
 returns : tie.Need-returns-then-out-n
 unfolding Packed
 returns c =
-    let s = c.before.before.before.before.before.before.before in
-    let u = pack-no-room s.args.kind s.args.pixels.now s.args.out.now _ s.requires
+    let u = pack-no-room c.args.kind c.args.pixels.now c.args.out.now _ c.requires
     (sym c.in-Octets.is ∙ c.octet_count-size.ensures)
     c.if-out-n.true in
     (c.refused-then-out-n.ensures ∙ u.0, u.1)
 
 write-octets-requires : tie.Need-write_octets-requires
 write-octets-requires c κs =
-    let s = c.before.before.before.before.before.before.before in
-    may_write s.args.kind s.args.pixels.now s.args.out.now _ s.requires
+    may_write c.args.kind c.args.pixels.now c.args.out.now _ c.requires
     (sym c.in-Octets.is ∙ c.octet_count-size.ensures)
     c.if-out-n.false
 
 returns-2 : tie.Need-returns-in-Outside
 unfolding Packed
 returns-2 c =
-    let s = c.before.before.before.before.before in
-    let u = pack-outside s.args.kind s.args.pixels.now s.args.out.now s.requires
+    let u = pack-outside c.args.kind c.args.pixels.now c.args.out.now c.requires
     (sym c.in-Outside.is ∙ c.octet_count-size.ensures) in
     (c.refused.ensures ∙ u.0, u.1)
 
 returns-3 : tie.Need-returns-else-out-n
 unfolding Packed
 returns-3 c =
-    let s = c.before.before.before.before.before.before.before.before.before.before in
-    pack-done s.args.kind s.args.pixels.now s.args.out.now _ s.requires
+    pack-done c.args.kind c.args.pixels.now c.args.out.now _ c.requires
     (sym c.in-Octets.is
     ∙ c.octet_count-size.ensures) _
     c.if-out-n.false c.write_octets.ensures.1

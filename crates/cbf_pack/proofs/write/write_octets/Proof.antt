@@ -3,7 +3,6 @@
 use Prim.Native.Nat.{◌+◌, ◌-◌, ◌<◌, ◌≤◌}
 use native.Mathlib.Omega.{arith}
 use mathlib.Core.Path.{◌≡◌, refl}
-use mathlib.Core.Logic.{⊎_elim}
 use lib.IntN.{pos}
 use lib.ListN.{length}
 use mir.Syntax.{w64}
@@ -14,6 +13,7 @@ use Rattle.cbf_pack.proofs.DenseLaws.{Along, along-none, along-same, along-writa
 use Rattle.cbf_pack.proofs.DenseLaws.{over_none, over-as}
 use Rattle.cbf_pack.proofs.write.write_octets.Statement.{statement}
 use Rattle.cbf_pack.proofs.write.write_octets.Tie as tie
+use Rattle.cbf_pack.proofs.write.write_octets.Lts.{then-n-eq0, else-n-eq0}
 
 abbrev invariant-loop : tie.invariant-loop-k
 invariant-loop pixels out₀ start table last₀ at₀ used₀ k₀ out last at used k = Along pixels 0 (length pixels) (pos 0) out₀ start k out last at
@@ -86,26 +86,30 @@ joined : (c : tie.Joined-n-eq0 invariant-loop decreases-loop)
 joined c =
     let a = c.loop-k.invariant.0 in
     let t = c.loop-k-test.true in
-    ⊎_elim
-    (λ w.
-    let p = w.1.ensures in
-    let e = w.10 in
-    let h : 0 < w.1.result = p.2 (omega arith) in
-    let b = p.3 (length a.behind) a.seven a.few in
-    (omega arith, omega (arith, p.0), omega arith, over-as w.4.ensures e w.7 w.8 (omega arith)))
-    (λ w.
-    let r = run c.before in
-    let e = w.8 in
-    let g = w.0.left in
-    let b = r.run.blocks in (
-      omega arith,
-      omega (arith, r.run.inside),
-      omega (arith, a.seven),
-      over-as
-          (over_none (window-wrote r w.2.ensures refl) (length c.args.pixels.now -
-          (c.loop-k.k + c.if-n-eq0.n))) e w.5 w.6 (omega arith),
-    ))
-    c.if-n-eq0.branch-raw
+    elim c.if-n-eq0.branch [
+      | then-n-eq0 w ↦
+          let p = w.part-n.ensures in
+          let e = w.n-is in
+          let h : 0 < w.part-n.result = p.2 (omega arith) in
+          let b = p.3 (length a.behind) a.seven a.few in (
+            omega arith,
+            omega (arith, p.0),
+            omega arith,
+            over-as w.write_part-next.ensures e w.out-is w.at-is (omega arith),
+          )
+      | else-n-eq0 w ↦
+          let r = run c.before in
+          let e = w.n-is in
+          let g = w.if-n-eq0.false in
+          let b = r.run.blocks in (
+            omega arith,
+            omega (arith, r.run.inside),
+            omega (arith, a.seven),
+            over-as
+                (over_none (window-wrote r w.write_run.ensures refl) (length c.args.pixels.now -
+                (c.loop-k.k + c.if-n-eq0.n))) e w.out-is w.at-is (omega arith),
+          )
+    ]
 
 add-k : tie.Need-overflow_add-k invariant-loop decreases-loop
 add-k c = omega (arith, (joined c.before).1)

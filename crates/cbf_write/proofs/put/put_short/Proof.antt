@@ -1,13 +1,13 @@
 -- `put::put_short` meets its contract: the first i octets of the text are copied, and each block adds its own.
 -- Assumes nothing.
 use mathlib.Core.Path.{refl}
-use mathlib.Core.Logic.{⊎_elim}
 use Prim.Native.Nat.{◌+◌, ◌-◌, ◌<◌}
 use native.Mathlib.Omega.{arith}
 use lib.ListN.{length}
 use Rattle.cbf_write.proofs.PutLaws.{Copied, copied-length, copied_more, copied-as, copied_all}
 use Rattle.cbf_write.proofs.put.put_short.Statement.{statement}
 use Rattle.cbf_write.proofs.put.put_short.Tie as tie
+use Rattle.cbf_write.proofs.put.put_short.Lts.{then-text-i-ge4, else-text-i-ge4, then-text-i-ge2, else-text-i-ge2}
 
 abbrev invariant-loop : tie.invariant-loop-i
 invariant-loop out₀ at text i₀ out i = Copied out₀ at text out i
@@ -49,13 +49,14 @@ joined : (c : tie.Joined-text-i-ge4 invariant-loop decreases-loop)
     × (length c.args.text.now < c.if-text-i-ge4.i + 4)
 joined c =
     let v = c.loop-i.invariant in
-    ⊎_elim
-    (λ w. (
-      copied-as (copied_more v 4 (omega (arith, v.within)) w.2.ensures.0 w.2.ensures.1) w.5 w.6,
-      omega (arith, v.within, w.6, w.2.ensures.0),
-    ))
-    (λ w. (copied-as v w.1 w.2, omega (arith, v.within, w.2, w.0.left)))
-    c.if-text-i-ge4.branch-raw
+    elim c.if-text-i-ge4.branch [
+      | then-text-i-ge4 w ↦
+          let e = w.put_block-i-then-text-i-ge4.ensures in (
+            copied-as (copied_more v 4 (omega (arith, v.within)) e.0 e.1) w.out-is w.i-is,
+            omega (arith, v.within, w.i-is, e.0),
+          )
+      | else-text-i-ge4 w ↦ (copied-as v w.out-is w.i-is, omega (arith, v.within, w.i-is, w.if-text-i-ge4.false))
+    ]
 
 sub-if2 : tie.Need-overflow_sub-text-3 invariant-loop decreases-loop
 sub-if2 c = omega (arith, (joined c.before).0.within)
@@ -72,13 +73,14 @@ joined-2 : (c : tie.Joined-text-i-ge2 invariant-loop decreases-loop)
 joined-2 c =
     let j = joined c.before.before in
     let v = j.0 in
-    ⊎_elim
-    (λ w. (
-      copied-as (copied_more v 2 (omega (arith, v.within)) w.2.ensures.0 w.2.ensures.1) w.5 w.6,
-      omega (arith, j.1, w.6, w.2.ensures.0),
-    ))
-    (λ w. (copied-as v w.1 w.2, omega (arith, v.within, w.2, w.0.left)))
-    c.if-text-i-ge2.branch-raw
+    elim c.if-text-i-ge2.branch [
+      | then-text-i-ge2 w ↦
+          let e = w.put_block-i-then-text-i-ge2.ensures in (
+            copied-as (copied_more v 2 (omega (arith, v.within)) e.0 e.1) w.out-is w.i-is,
+            omega (arith, j.1, w.i-is, e.0),
+          )
+      | else-text-i-ge2 w ↦ (copied-as v w.out-is w.i-is, omega (arith, v.within, w.i-is, w.if-text-i-ge2.false))
+    ]
 
 put-block-requires-4 : tie.Need-put_block-requires invariant-loop decreases-loop
 put-block-requires-4 c κs = let v = (joined-2 c.before.before).0 in omega (arith, v.within, copied-length v)
