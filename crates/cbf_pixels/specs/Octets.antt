@@ -1,5 +1,5 @@
 -- Numbers as octets, lowest first, at any count k of octets; signed numbers in two's complement.
-use Rattle.std.specs.Prelude.{ℕ, zero, suc, ◌+◌, ◌*◌, ◌-◌, ◌/◌, ◌%◌, ◌^◌, ◌<◌, List, [], ◌∷◌, Bool, true, false, cond, ltb, ℤ, pos, negsuc}
+use Rattle.std.specs.Prelude.{ℕ, zero, suc, ◌+◌, ◌*◌, ◌-◌, ◌/◌, ◌%◌, ◌^◌, ◌<◌, List, [], ◌∷◌, cond, ltb, ℤ, pos, negsuc}
 
 -- the number that octets stand for
 unfoldable pub number : List ℕ → ℕ

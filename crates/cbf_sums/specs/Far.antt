@@ -1,6 +1,5 @@
 -- A pixel beside the ends of its type.
 use Rattle.std.specs.Prelude.{ℕ, ◌+◌, ◌*◌, ◌<◌, ◌≤◌}
-use Rattle.cbf_pixels.specs.Pixels.{least, greatest}
 use Rattle.cbf_sums.specs.Passes.{biased_least}
 
 -- a pixel from which as many pixels as two halves are in the type, and biased is one of them

@@ -30,7 +30,7 @@ use Rattle.cbf_pixels.proofs.Numbers.{mag-le}
 use Rattle.cbf_octets.proofs.DifferenceLaws.{pos-sub, clamped-small}
 use Rattle.cbf_octets.proofs.PlainLaws.{plain-took}
 use Rattle.cbf_octets.proofs.RestLaws.{rest-start, rest_end_lem}
-use Rattle.cbf_sums.proofs.PassesLaws.{sub-sum, zero-between, top-is, top_small, reach, clamped-reach, within-between}
+use Rattle.cbf_sums.proofs.PassesLaws.{sub-sum, zero-between, top-is, top_small, clamped-reach, within-between}
 use Rattle.cbf_sums.proofs.PassesLaws.{within-beyond, counts, step_in, step-out, passes_none, passes-passes}
 use Rattle.cbf_sums.proofs.PassesLaws.{passes-fails, fails_more, passed-not, passed_to}
 

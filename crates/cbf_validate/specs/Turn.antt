@@ -1,6 +1,5 @@
 -- A turn of the first pass of unpacking.
 use Rattle.std.specs.Prelude.{ℕ, ◌<◌, ◌≤◌, List}
-use Rattle.std.proofs.Math.Option.{some}
 use Rattle.cbf_sums.specs.Passes.{Passed}
 
 -- a turn of the first pass: some of the pixels that are left

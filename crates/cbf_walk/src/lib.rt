@@ -1,2 +1,4 @@
+#![tactic(auto)]
+
 // SPDX-License-Identifier: Apache-2.0
 // Definitions and laws only: specs/ and proofs/. No function.

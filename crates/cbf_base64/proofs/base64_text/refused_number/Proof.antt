@@ -1,7 +1,7 @@
 -- `refused_number` meets its contract. Assumes nothing.
 use mathlib.Core.Path.{sym, ◌∙◌}
 use borrow.Author.Rules.{rules}
-use borrow.Author.Tests.{lt-ltb, le-ltb, not-true, not-false}
+use borrow.Author.Tests.{lt-ltb, le-ltb}
 use native.Mathlib.Omega.{arith}
 use Rattle.cbf_base64.proofs.base64_text.refused_number.Statement.{statement}
 use Rattle.cbf_base64.proofs.base64_text.refused_number.Tie as tie

@@ -1,6 +1,5 @@
 -- `closing::closed` meets its contract: the line end, the boundary, and what follows the span. Assumes nothing.
 use borrow.Author.Rules.{rules}
-use borrow.Author.Tests.{not-true, not-false}
 use mathlib.Core.Path.{◌≡◌, refl, sym, ◌∙◌}
 use native.Mathlib.Omega.{arith}
 use Rattle.cbf_lines.specs.declared.closing.Next.{Next}

@@ -1,5 +1,4 @@
 use mathlib.Core.Path.{ap, ◌∙◌}
-use borrow.Author.Tests.{not-true, not-false}
 use Rattle.cbf_lines.specs.Line.{line_at}
 use Rattle.cbf_lines.proofs.FirstLineLaws.{first-refused, first-text}
 use borrow.Author.Rules.{rules}

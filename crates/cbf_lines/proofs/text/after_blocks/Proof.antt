@@ -1,4 +1,3 @@
-use borrow.Author.Tests.{not-false}
 use Prim.Native.Nat.{◌-◌, ◌≤◌}
 use native.Mathlib.Omega.{arith}
 use Rattle.cbf_lines.specs.Text.{Run, in_class}

@@ -1,6 +1,5 @@
 use mir.Syntax.{w64}
 use Rattle.std.proofs.Common.{◌≡◌, ◌∙◌, arith, to_z-of_z, rules}
-use borrow.Author.Tests.{not-false}
 use Rattle.cbf_measure.specs.Measure.{part}
 use Rattle.cbf_measure.proofs.MeasureLaws.{held, held-is}
 use Rattle.cbf_measure.proofs.RangeLaws.{part-words}

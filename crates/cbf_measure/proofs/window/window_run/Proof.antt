@@ -1,5 +1,4 @@
 use Rattle.std.proofs.Common.{◌≡◌, ◌-◌, length, ℤ, refl, subst, arith, to_z-of_z, w64, to_z, rules}
-use borrow.Author.Tests.{not-false}
 use Rattle.cbf_measure.specs.Window.{WindowRun}
 use Rattle.cbf_measure.proofs.WindowLaws.{run_none, run_more}
 use Rattle.cbf_measure.proofs.window.window_run.Statement.{statement}

@@ -1,6 +1,5 @@
 -- `escapes` meets its contract. While nothing is found the first j octets are plain. Assumes nothing.
 use lib.ListN.{get_or}
-use mathlib.Core.Logic.{⊎_elim}
 use borrow.Author.Count.{below_more}
 use Rattle.cbf_octets.specs.Plain.{Plain}
 use mathlib.Core.Bool.{false}
@@ -25,10 +24,10 @@ loop-again : tie.Need-loop-j-preserved invariant-loop decreases-loop
 loop-again c = (
   omega arith,
   elim c.if-octets-i.branch [
-    then-octets-i w ↦ λ e. let z : ◌≡◌ {A = ℕ} 0 1 = cc in let y : ⊥ = omega arith in absurd y
-  | else-octets-i w ↦ λ e. below_more (λ (m : ℕ). get_or c.before.before.before.before.args.octets.now
-      (c.before.before.before.before.args.i + m) 0 ≡ 128 → ⊥) c.before.before.before.loop-j.j
-      (c.before.before.before.loop-j.invariant.1 (sym w.found-is ∙ e)) w.if-octets-i.false
+    | then-octets-i w ↦ λ e. let z : ◌≡◌ {A = ℕ} 0 1 = cc in let y : ⊥ = omega arith in absurd y
+    | else-octets-i w ↦ λ e. below_more (λ (m : ℕ). get_or c.before.before.before.before.args.octets.now
+        (c.before.before.before.before.args.i + m) 0 ≡ 128 → ⊥) c.before.before.before.loop-j.j
+        (c.before.before.before.loop-j.invariant.1 (sym w.found-is ∙ e)) w.if-octets-i.false
   ],
 )
 
