@@ -56,12 +56,12 @@ def tokens(text):
 
 
 def blocks(text):
-    """The lines of a text that are indented least, each with the lines below it that are indented more."""
+    """The lines of a text that are indented least, each with what is indented more below it and a closing bracket."""
     lines = [line for line in text.split("\n") if line.strip()]
     least = min((len(line) - len(line.lstrip()) for line in lines), default=0)
     found = []
     for line in lines:
-        if line[least] != " ":
+        if line[least] not in " }":
             found.append(line)
         else:
             found[-1] += "\n" + line
@@ -230,7 +230,7 @@ def add_use(file, text):
         file.modules[whole[2]] = whole[1]
     elif not listed:
         fault(file.path, f"not understood: use {text}")
-    for part in listed[2].split(", ") if listed else []:
+    for part in filter(None, map(str.strip, listed[2].split(",") if listed else [])):
         name, _, other = part.partition(" as ")
         shown = other or name
         file.imports[shown] = (listed[1], name)
