@@ -17,19 +17,19 @@ INSTALL ?= install
 
 VERSION := $(shell sed -n 's/^.define MEL_VERSION "\(.*\)"/\1/p' include/mooringelm.h)
 SONAME := libmooringelm.so.$(basename $(VERSION))
-PROVED := crates.txt $(shell find crates -name '*.rt' -o -name '*.antt')
+PROVED := crates.txt $(shell find crates -name out -prune -o '(' -name '*.rt' -o -name '*.antt' ')' -print)
 RUST := $(shell find mel -name '*.rs' -o -name Cargo.toml) include/mooringelm.h
 
 .PHONY: all lib install install-lib uninstall test clean
 all: lib target/bin/mel
 lib: target/lib/libmooringelm.a target/lib/libmooringelm.so
 
-# rt check proves crates that do not depend on each other side by side; rt staticlib alone would prove one by one.
+# rt all check proves crates that do not depend on each other side by side; rt lib alone would prove one by one.
 target/lib/libmooringelm.a: $(PROVED)
-	rt check cbf_capi
-	rt staticlib cbf_capi
+	rt all check
+	cd crates/cbf_capi && rt lib
 	mkdir -p target/lib
-	cp target/staticlib/libcbf_capi.a $@
+	cp crates/cbf_capi/out/libcbf_capi.a $@
 
 # The shared library exports the header's functions and nothing else.
 target/lib/mooringelm.map: include/mooringelm.h

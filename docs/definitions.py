@@ -25,11 +25,12 @@ LIST, FORMAT = Path("docs/PROVED.md"), Path("docs/FORMAT.md")
 BEGIN, END = "<!-- definitions.py: list -->", "<!-- definitions.py: end -->"
 
 # The toolchain's libraries: names that come from them are not followed.
-LIBRARIES = ("lib.", "mathlib.", "Prim.", "borrow.", "native.", "denote.")
+LIBRARIES = ("Rattle.std.", "Rattle.core.", "lib.", "mathlib.", "Prim.", "borrow.", "native.", "denote.")
+LIBRARY_CRATES = {"std", "core"}
 # What antt and the contracts have of their own.
-WORDS = set("→ = : × ⊥ . _ λ let in record Type now ⌜ ⌝ ( ) { } , ;".split())
-# Fields that are no record's: parts of a pair, and a lent slice before and after.
-FIELDS = {"0", "1", "entry", "exit"}
+WORDS = set("→ = : × ⊥ ¬ . _ λ let in record Type Unit tt absurd ( ) { } , ;".split())
+# Fields that are no record's: the parts of a pair, and what is lent as it is, and before and after a call.
+FIELDS, LENT = {"0", "1"}, {"now", "old", "new"}
 MACHINE = set("u8 u16 u32 u64 usize i8 i16 i32 i64 isize bool mut str self".split())
 NUMBER = re.compile(r"0x[0-9a-fA-F]+|[0-9][0-9_]*")
 
@@ -50,17 +51,17 @@ def without_comments(text, mark):
 
 
 def tokens(text):
-    """Words, strings and brackets; a name of the code that stands in guillemets is the name."""
+    """Words, strings and brackets; a name that stands in guillemets is the name. A word has its fields: `p.section`."""
     return re.findall(r'"(?:\\.|[^"\\])*"|[(){},;]|[^\s(){},;"]+', text.replace("«", "").replace("»", ""))
 
 
 def blocks(text):
-    """The lines of a text that are indented least, each with the lines below it that are indented more."""
+    """The lines of a text that are indented least, each with what is indented more below it and a closing bracket."""
     lines = [line for line in text.split("\n") if line.strip()]
     least = min((len(line) - len(line.lstrip()) for line in lines), default=0)
     found = []
     for line in lines:
-        if line[least] != " ":
+        if line[least] not in " }":
             found.append(line)
         else:
             found[-1] += "\n" + line
@@ -112,9 +113,20 @@ def free(words, bound):
             scopes[-1].add(word)
         elif in_record[-1] and before in "{;" and words[at + 1:at + 2] == ["="]:
             pass
-        elif word not in scopes[-1]:
-            used.append(word)
+        else:
+            head, dot, fields = word.partition(".")
+            if head not in scopes[-1]:
+                used.append(word)
+            elif dot:
+                used.append("." + fields)
     return used
+
+
+def without_lent(word, names):
+    """A word of a clause without the .now, .old or .new right behind one of these names."""
+    head, _, fields = word.partition(".")
+    first, _, others = fields.partition(".")
+    return f"{head}.{others}".rstrip(".") if head in names and first in LENT else word
 
 
 # ---- definitions in antt
@@ -218,16 +230,26 @@ def add_use(file, text):
         file.modules[whole[2]] = whole[1]
     elif not listed:
         fault(file.path, f"not understood: use {text}")
-    for part in listed[2].split(", ") if listed else []:
+    for part in filter(None, map(str.strip, listed[2].split(",") if listed else [])):
         name, _, other = part.partition(" as ")
         shown = other or name
         file.imports[shown] = (listed[1], name)
-        # An operator such as _++_ stands between its operands.
-        if re.fullmatch(r"_.+_", shown):
+        # An operator such as ◌++◌ stands between its operands.
+        if re.fullmatch(r"◌[^◌]+◌", shown):
             file.imports[shown[1:-1]] = (listed[1], name)
 
 
 # ---- types and contracts in Rattle
+
+def use_paths(text):
+    """The paths that a `use` of code names, each as its parts; `a::{self, b}` are a and a::b."""
+    group = re.fullmatch(r"(.*)::\{(.*)\}", text, re.DOTALL)
+    names = [name.strip() for name in group[2].split(",") if name.strip()] if group else [text]
+    paths = [(group[1] if name == "self" else f"{group[1]}::{name}") if group else name for name in names]
+    if not all(re.fullmatch(r"\w+(::\w+)*", path) for path in paths):
+        raise ValueError(f"not understood: use {text}")
+    return [path.split("::") for path in paths]
+
 
 class Source:
     """A file of code: what it imports, its types and constants, and its functions with their contracts."""
@@ -235,10 +257,11 @@ class Source:
     def __init__(self, crate, path):
         self.crate, self.path = crate, path
         self.text = without_comments(path.read_text(), "//")
-        self.uses = {}
-        for item in re.findall(r"(?m)^\s*(?:pub )?use ([\w:]+);", self.text):
-            self.uses[item.split("::")[-1]] = item.split("::")
-        self.handed_on = re.findall(r"(?m)^pub use ([\w:]+);", self.text)
+        self.uses, self.handed_on = {}, []
+        for handed_on, item in re.findall(r"(?m)^\s*(pub )?use ([^;]*);", self.text):
+            for parts in use_paths(item):
+                self.uses[parts[-1]] = parts
+                self.handed_on += [parts] if handed_on else []
         self.imports, self.modules = {}, {}
         for item in re.findall(r"(?ms)^ghost use (.*?);", self.text):
             add_use(self, item)
@@ -259,19 +282,31 @@ class Source:
             yield found[2], found[1], found.end()
 
     def contract(self, name):
-        """The words of the signature, the names of the parameters, and the clauses, each with its kind."""
-        at = self.functions[name][1]
-        start = self.text.index("(", at)
-        end = closing(self.text, start)
+        """The types of the signature, the names of the parameters, and the clauses, each with its kind."""
+        opened = re.compile(r"(?:<([^<>()]*)>)?\(").match(self.text, self.functions[name][1])
+        if not opened:
+            raise ValueError(f"not understood: the signature of {name}")
+        start, end = opened.end() - 1, closing(self.text, opened.end() - 1)
         clauses = []
         clause = re.compile(r"\s*(requires|ensures)\b\s*\w*\s*(?=\{)")
         following = re.compile(r"\s*(?:->\s*([^{]*?))?(?=\s*(?:\brequires\b|\bensures\b|\{))").match(self.text, end)
-        signature, place = self.text[start:end] + " " + (following[1] or ""), following.end()
+        if not following:
+            raise ValueError(f"not understood: what stands behind the parameters of {name}")
+        signature = " ".join((opened[1] or "", self.text[start:end], following[1] or ""))
+        place = following.end()
         while found := clause.match(self.text, place):
             place = closing(self.text, found.end())
             clauses.append((found[1], self.text[found.end() + 1:place - 1]))
-        parameters = re.findall(r"(\w+)\s*:", self.text[start:end])
-        return re.findall(r"[A-Za-z]\w*", re.sub(r"\w+\s*:(?!:)", " ", signature)), parameters, clauses
+        if not re.compile(r"\s*\{").match(self.text, place):
+            raise ValueError(f"not understood: what stands between the clauses and the body of {name}")
+        own = re.findall(r"(\w+)\s*(?::[^,]*)?", opened[1] or "")
+        types = [word for word in type_words(signature) if word not in own]
+        return types, re.findall(r"(\w+)\s*:(?!:)", self.text[start:end]), clauses
+
+
+def type_words(text):
+    """The types in a signature, or in a type's body, without the names before their colons."""
+    return re.findall(r"[A-Za-z]\w*(?:::\w+)*", re.sub(r"(pub )?\w+\s*:(?!:)", " ", text))
 
 
 # ---- following names
@@ -319,10 +354,10 @@ class Follower:
 
     def target(self, path, name):
         """The file and the owner of a name of a module, and whether it is a constructor; None for a library's."""
-        if path.startswith(LIBRARIES):
-            return None
-        inner = re.fullmatch(r"Rattle·(\w+?)(?:·specs)?\.specs\.(.*)", path)
-        if not inner:
+        inner = re.fullmatch(r"Rattle\.(\w+)\.specs\.(.*)", path)
+        if not inner or not (CRATES / inner[1]).exists():
+            if path.startswith(LIBRARIES):
+                return None
             raise ValueError(f"not understood: {path}")
         crate, module = inner[1], inner[2].split(".")
         if module[0] != "declared":
@@ -330,7 +365,7 @@ class Follower:
             if name not in file.owner or len(module) > 1:
                 raise ValueError(f"no {name} in {path}")
             return file, file.owner[name], name in file.constructors
-        variants = module[-1] == "the-variants"
+        variants = module[-1] == "TheVariants"
         module = module[1:-1] if variants else module[1:]
         file, kind = self.item(self.source(crate, None), ["crate"] + module)
         if variants and not re.search(rf"\b{name}\b", file.types[kind][1]):
@@ -341,19 +376,21 @@ class Follower:
         """What a word means in a file: 'word' for what the language has, None for a library's, or a target."""
         if word in WORDS or NUMBER.fullmatch(word) or word.startswith('"'):
             return "word"
-        if word.startswith(".") and len(word) > 1:
-            self.projections.add((file.path, word[1:]))
-            return "word"
-        if word in file.imports:
-            return self.target(*file.imports[word])
-        if isinstance(file, Specs) and word in file.owner:
-            return file, file.owner[word], word in file.constructors
-        module, _, name = word.rpartition(".")
-        if module in file.modules:
-            return self.target(file.modules[module], name)
-        if isinstance(file, Source) and word in file.uses:
-            return *self.item(file, file.uses[word]), False
-        raise ValueError(f"the word {word} is not understood")
+        head, *fields = word.split(".")
+        if head in file.modules and fields:
+            found, fields = self.target(file.modules[head], fields[0]), fields[1:]
+        elif head in file.imports:
+            found = self.target(*file.imports[head])
+        elif isinstance(file, Specs) and head in file.owner:
+            found = file, file.owner[head], head in file.constructors
+        elif isinstance(file, Source) and head in file.uses:
+            found = *self.item(file, file.uses[head]), False
+        elif not head and all(fields):
+            found = "word"
+        else:
+            raise ValueError(f"the word {word} is not understood")
+        self.projections |= {(file.path, field) for field in fields}
+        return found
 
     def mention(self, file, words, user):
         for word in words:
@@ -400,14 +437,18 @@ class Follower:
             if "{" in text[1:]:
                 fault(user, "a variant with fields is not understood")
             text = " ".join(re.findall(r"\(([^()]*)\)", text))
-        for word in re.findall(r"[A-Za-z]\w*", re.sub(r"(pub )?\w+\s*:(?!:)", " ", text)):
+        for word in type_words(text):
             self.mention_type(file, word, user)
 
     def mention_type(self, file, word, user):
         if word in MACHINE:
             return
+        first, *rest = word.split("::")
+        parts = file.uses.get(first, [first]) + rest
+        if parts[0] in LIBRARY_CRATES:
+            return
         try:
-            target, name = (file, word) if word in file.types else self.item(file, file.uses.get(word, [word]))
+            target, name = (file, word) if word in file.types else self.item(file, parts)
         except ValueError:
             fault(user, f"the type {word} is not understood")
             return
@@ -423,7 +464,9 @@ class Follower:
         for kind, text in clauses:
             if kind == "requires":
                 fault(user, "has a requires")
-            self.mention(file, free(tokens(text), parameters), user)
+            names = set(parameters) | ({"result"} if kind == "ensures" else set())
+            words = [without_lent(word, names) for word in tokens(text)]
+            self.mention(file, free(words, names), user)
 
     def follow(self):
         while self.waiting:
@@ -454,18 +497,20 @@ def check_exported():
     """Functions are exported by cbf_capi alone, in the form that is looked for, and cbf has nothing but `pub use`."""
     for path in sorted(CRATES.glob("*/src/*.rt")):
         text = without_comments(path.read_text(), "//")
-        plain = len(re.findall(r'(?m)^#\[no_mangle\]\npub extern "C" fn ', text)) if path.parts[1] == "cbf_capi" else 0
+        form = r'(?m)^#\[unsafe\(no_mangle\)\]\npub extern "C" fn '
+        plain = len(re.findall(form, text)) if path.parts[1] == "cbf_capi" else 0
         if (text.count("no_mangle"), text.count('extern "C"')) != (plain, plain):
             fault(path, "a function is exported where or how it is not understood")
-        if path.parts[1] == "cbf" and re.sub(r"(?m)^pub use [\w:]+;$", "", text).strip():
-            fault(path, "has something other than `pub use` of one name")
+        text = text.replace("#![tactic(auto)]\n", "", 1)
+        if path.parts[1] == "cbf" and re.sub(r"(?m)^pub use [\w:]+(?:::\{[\w\s,]+\})?;$", "", text).strip():
+            fault(path, "has something other than `pub use` of names")
 
 
 def public(follower):
     """The public functions: what cbf hands on, the two orders, the functions for C, and what the program promises."""
     handed = follower.source("cbf", None)
-    for item in handed.handed_on:
-        follower.reach(*follower.item(handed, item.split("::")), f"{handed.path}: pub use")
+    for parts in handed.handed_on:
+        follower.reach(*follower.item(handed, parts), f"{handed.path}: pub use")
     for crate in ("cbf_orders", "cbf_capi", "cbf_list"):
         for path in sorted((CRATES / crate / "src").glob("*.rt")):
             file = follower.source(crate, None if path.stem in ("lib", "main") else path.stem)
@@ -479,7 +524,7 @@ def public(follower):
 
 def grouped(names):
     """File by file, in the order of crates.txt and the files' own."""
-    order = [line.split(":")[0] for line in Path("crates.txt").read_text().splitlines()]
+    order = [line.split(":")[0].split()[0] for line in Path("crates.txt").read_text().splitlines() if line.strip()]
     files = {}
     for path, name in names:
         files.setdefault(path, set()).add(name)
