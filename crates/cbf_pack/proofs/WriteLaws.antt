@@ -12,7 +12,7 @@ use lib.Signed.{mag}
 use mir.Syntax.{w64}
 use mir.Val.{to_z, of_z, SFits}
 use mir.Facts.{to_z_pos, to_z-of_z}
-use Rattle.cbf_pixels.specs.Octets.{octets, bits}
+use Rattle.cbf_pixels.specs.Octets.{bits}
 use Rattle.cbf_pixels.specs.Pixels.{pack_difference, pack_from, pack_byte_offset}
 use Rattle.cbf_measure.specs.Window.{SameWindow, WindowRun}
 use Rattle.cbf_measure.specs.Measure.{part}

@@ -1,7 +1,6 @@
 -- `put_head` meets its contract: the pieces of the head, one after the other. Assumes nothing.
 use mathlib.Core.List.{List}
 use Prim.Native.Nat.{ℕ}
-use borrow.Author.Rules.{rules}
 use lib.ListN.{drop}
 use Rattle.cbf_house.specs.Head.{head_text}
 use Rattle.cbf_house.proofs.HeadLaws.{Written, written_none, written-more, written_all, written-length}

@@ -1,5 +1,4 @@
 -- `letters::after_letters` meets its contract: block after block is of letters. Assumes nothing.
-use borrow.Author.Tests.{not-false}
 use mathlib.Core.Path.{◌≡◌}
 use Prim.Native.Nat.{◌-◌, ◌%◌, ◌≤◌}
 use native.Mathlib.Omega.{arith}

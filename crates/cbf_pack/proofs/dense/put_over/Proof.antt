@@ -6,7 +6,6 @@ use mathlib.Core.List.{◌++◌}
 use lib.IntN.{ℤ, pos, nat_abs, ◌+ℤ◌}
 use lib.ListN.{length}
 use lib.Seq.{sets}
-use borrow.Author.Tests.{not-true, not-false}
 use mir.Facts.{to_z-of_z}
 use Rattle.cbf_pixels.specs.Octets.{octets, bits}
 use Rattle.cbf_measure.specs.Measure.{over}

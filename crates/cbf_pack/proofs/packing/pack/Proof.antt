@@ -1,5 +1,4 @@
 use mathlib.Core.Path.{◌∙◌}
-use borrow.Author.Tests.{not-false}
 use borrow.Author.Rules.{rules}
 use Rattle.cbf_pack.proofs.PackingLaws.{Packed, pack-many, ample-write, ample-done}
 use Rattle.cbf_pack.proofs.packing.pack.Statement.{statement}

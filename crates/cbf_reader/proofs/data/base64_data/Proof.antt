@@ -32,11 +32,11 @@ base64_data_spec =
     (λ c κs. (bounds c.before.before).1)
     (λ c. search rules)
     (λ c. search rules)
-    (λ c. let b = bounds c.before.before.before.before.before.before in omega
+    (λ c. let b = bounds c.before.before.before.before in omega
     (arith, c.requires.1))
     (λ c. let a = c.args in base64-refused a.file.now a.limit
     a.size a.at (sym c.in-Refused.is ∙ c.base64_text-t.ensures.0))
     (λ c. let a = c.args in base64-cut a.file.now a.limit a.size a.at
     (sym c.in-CutOff.is ∙ c.base64_text-t.ensures.0))
-    (λ c. closes c.before.before _ c.in-Missing.is)
-    (λ c. closes c.before.before.before _ c.in-At.is))
+    (λ c. closes c.before _ c.in-Missing.is)
+    (λ c. closes c.before _ c.in-At.is))

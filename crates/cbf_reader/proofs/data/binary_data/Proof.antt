@@ -18,5 +18,18 @@ binary_data_spec =
     ∙ c.closed-end.ensures) in
     tie.close
     (tie.spec
-
-    (λ c. search rules) (λ c. let a = c.args in binary-short a.file.now a.limit a.size a.at c.if-file-at-lt4.true) (λ c. search rules) (λ c κs. search rules) (λ c. let a = c.args in binary-other a.file.now a.limit a.size     a.at refl (omega arith) (sym c.is_word.ensures ∙ c.if-not-is_word.true)) (λ c. search rules) (λ c. let a = c.args in binary-few a.file.now a.limit     a.size a.at refl (omega arith) (marked c.before) c.if-file-first.true) (λ c. search rules) (λ c κs. search rules) (λ c. search rules) (λ c. search rules) (λ c. closes c.before.before _ c.in-Wrong.is) (λ c. closes c.before.before.before _ c.in-Span.is))
+    (λ c. search rules)
+    (λ c. let a = c.args in binary-short a.file.now a.limit a.size a.at c.if-file-at-lt4.true)
+    (λ c. search rules)
+    (λ c κs. search rules)
+    (λ c. let a = c.args in binary-other a.file.now a.limit a.size a.at refl (omega arith) (sym c.is_word.ensures ∙
+    c.if-not-is_word.true))
+    (λ c. search rules)
+    (λ c. let a = c.args in binary-few a.file.now a.limit a.size a.at refl (omega arith) (marked c.before)
+    c.if-file-first.true)
+    (λ c. search rules)
+    (λ c κs. search rules)
+    (λ c. search rules)
+    (λ c. search rules)
+    (λ c. closes c.before _ c.in-Wrong.is)
+    (λ c. closes c.before _ c.in-Span.is))

@@ -24,5 +24,4 @@ pub is_boundary_spec : {M : Type 1} → statement M
 is_boundary_spec =
     tie.close
     (tie.spec
-
     (λ c. search rules) (λ c κs. search rules) returns returns-2)

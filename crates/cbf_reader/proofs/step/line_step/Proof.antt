@@ -14,9 +14,9 @@ returns c st n e k =
     let file = a.file.now in
     let b : BlockAfter file a.c.at a.to a.c.field a.c.block c.match-field.block
     = elim c.match-field.branch [
-      in-Outside h ↦ subst (λ (r : Range). BlockAfter file a.c.at a.to a.c.field a.c.block r) (sym h.block-is)
+      | in-Outside h ↦ subst (λ (r : Range). BlockAfter file a.c.at a.to a.c.field a.c.block r) (sym h.block-is)
           (block-outside file a.c.at a.to a.c.block a.c.field h.in-Outside.is h.next_block-block.result h.next_block-block.ensures)
-    | in_default h ↦ subst (λ (r : Range). BlockAfter file a.c.at a.to a.c.field a.c.block r) (sym h.block-is)
+      | in_default h ↦ subst (λ (r : Range). BlockAfter file a.c.at a.to a.c.field a.c.block r) (sym h.block-is)
           (block-kept file a.c.at a.to a.c.block a.c.field h.in_default.in_default-own.keys2 pre.2 pre.3)
     ] in
     (after_line_lem file a.c a.to a.next c.match-field.block c.next_field.result b c.next_field.ensures st n e k, refl, b.low, b.high)

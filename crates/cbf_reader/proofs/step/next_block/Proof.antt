@@ -27,5 +27,4 @@ pub next_block_spec : {M : Type 1} → statement M
 next_block_spec =
     tie.close
     (tie.spec
-
     (λ c. search rules) returns (λ c. search rules) (λ c κs. search rules) returns-2 (λ c κs. search rules) returns-3)

@@ -8,8 +8,7 @@ use Rattle.cbf_reader.proofs.step.section_at.Tie as tie
 data-for-requires : tie.Need-data_for-o-requires
 data-for-requires c κs =
     let a = c.args in
-    let pre = c.requires in
-    (
+    let pre = c.requires in (
       headers-within a.limit a.file.now a.at pre.1 c.in-As.d c.in-As.next (sym c.in-As.is
           ∙ c.section_headers-h.ensures),
       pre.2,

@@ -1,5 +1,4 @@
 use mathlib.Core.Path.{sym, ◌∙◌}
-use borrow.Author.Tests.{not-true, not-false}
 use Rattle.cbf_pixels.specs.declared.Compression.TheVariants.{ByteOffset}
 use Rattle.cbf_pixels.specs.PixelCalls.{unpack_pixels}
 use Rattle.cbf_unpack.proofs.UnpackingLaws.{Unpacked, unpack-bad, unpack-no-room, unpack-done}
