@@ -16,5 +16,4 @@ pub put_heading_spec : {M : Type 1} → statement M
 put_heading_spec =
     tie.close
     (tie.spec
-
     (λ c κs. search rules) (λ c κs. search rules) (λ c. search rules) returns)

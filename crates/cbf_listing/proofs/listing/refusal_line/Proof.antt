@@ -37,5 +37,4 @@ pub refusal_line_spec : {M : Type 1} → statement M
 refusal_line_spec =
     tie.close
     (tie.spec
-
     (λ c. search rules) (λ c κs. search rules) (λ c. search rules) (λ c κs. search rules) (λ c. search rules) (λ c κs. search rules) returns (λ c κs. search rules) (λ c κs. search rules) (λ c κs. search rules) (λ c κs. search rules) (λ c κs. search rules) (λ c. search rules) returns-2)

@@ -7,5 +7,4 @@ pub put_compression_spec : {M : Type 1} → statement M
 put_compression_spec =
     tie.close
     (tie.spec
-
     (λ c. search rules) (λ c κs. rw c.in-Uncompressed.is at c.requires) (λ c. search rules) (λ c κs. rw c.in-ByteOffset.is at c.requires) (λ c. search rules) (λ c. rw c.in-Uncompressed.is c.put_text.ensures) (λ c. search rules) (λ c. rw c.in-ByteOffset.is c.put_text-in-ByteOffset.ensures))

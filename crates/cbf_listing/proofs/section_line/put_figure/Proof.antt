@@ -25,5 +25,4 @@ pub put_figure_spec : {M : Type 1} → statement M
 put_figure_spec =
     tie.close
     (tie.spec
-
     put-number-requires put-text-requires (λ c. search rules) returns)

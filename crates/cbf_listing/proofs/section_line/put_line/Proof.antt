@@ -109,5 +109,4 @@ pub put_line_spec : {M : Type 1} → statement M
 put_line_spec =
     tie.close
     (tie.spec
-
     put-figures-requires put-compression-requires put-type-requires put-name-requires put-text-requires (λ c. search rules) returns)

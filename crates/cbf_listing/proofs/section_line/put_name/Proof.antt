@@ -56,5 +56,4 @@ pub put_name_spec : {M : Type 1} → statement M
 put_name_spec =
     tie.close
     (tie.spec
-
     returns put-text-requires (λ c. search rules) (λ c. search rules) (λ c. search rules) put-text-requires-2 (λ c. search rules) returns-2)

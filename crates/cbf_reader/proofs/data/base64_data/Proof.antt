@@ -1,6 +1,5 @@
 -- `data::base64_data` meets its contract: the text, what it decodes to, and the line after it. Assumes nothing.
 use borrow.Author.Rules.{rules}
-use borrow.Author.Tests.{not-true, not-false}
 use mathlib.Core.Path.{◌≡◌, sym, ◌∙◌}
 use native.Mathlib.Omega.{arith}
 use Rattle.cbf_lines.specs.declared.closing.Next.{Next}

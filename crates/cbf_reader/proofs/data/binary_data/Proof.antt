@@ -1,6 +1,5 @@
 -- `data::binary_data` meets its contract: the marker, the octets, and their closing. Assumes nothing.
 use borrow.Author.Rules.{rules}
-use borrow.Author.Tests.{not-true, not-false}
 use mathlib.Core.Path.{◌≡◌, refl, sym, ◌∙◌}
 use native.Mathlib.Omega.{arith}
 use Rattle.cbf_lines.specs.declared.closing.Ending.{Ending}

@@ -1,5 +1,4 @@
 use mathlib.Core.Path.{refl, sym, subst}
-use mathlib.Core.Logic.{⊎_elim}
 use Rattle.cbf_format.specs.declared.Range.{Range}
 use Rattle.cbf_reader.proofs.StepLaws.{BlockAfter, block-outside, block-kept, after_line_lem}
 use borrow.Author.Rules.{rules}

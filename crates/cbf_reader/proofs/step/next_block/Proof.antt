@@ -1,6 +1,5 @@
 use mathlib.Core.Path.{sym, ◌∙◌}
 use native.Mathlib.Omega.{arith}
-use borrow.Author.Tests.{not-true, not-false}
 use Rattle.cbf_reader.proofs.StepLaws.{block-short, block-other, block-named}
 use borrow.Author.Rules.{rules}
 use Rattle.cbf_reader.proofs.step.next_block.Statement.{statement}

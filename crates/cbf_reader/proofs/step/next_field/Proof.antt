@@ -4,7 +4,6 @@ use Prim.Native.Nat.{ℕ, ◌+◌}
 use native.Mathlib.Omega.{arith}
 use lib.ListN.{take, drop}
 use lib.Seq.{slice, drop-drop}
-use borrow.Author.Tests.{not-true, not-false}
 use Rattle.cbf_format.specs.Text.{blanks}
 use Rattle.cbf_reader.proofs.StepLaws.{follows, starts-some}
 use borrow.Author.Rules.{rules}

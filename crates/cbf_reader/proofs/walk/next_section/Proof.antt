@@ -1,6 +1,5 @@
 use mathlib.Core.Path.{sym, ◌∙◌}
 use borrow.Author.Rules.{rules}
-use borrow.Author.Tests.{not-true, not-false}
 use Rattle.cbf_pixels.proofs.Integers.{never}
 use Rattle.cbf_reader.proofs.walk.next_section.Statement.{statement}
 use Rattle.cbf_reader.proofs.walk.next_section.Tie as tie
