@@ -33,13 +33,13 @@ unfolding element
 returns-7 c =
     let n = c.args.number in
     rw (
-      ne_eqb n 1 c.in_default.rest.0.0.0.0.0.1,
-      ne_eqb n 2 c.in_default.rest.0.0.0.0.1,
-      ne_eqb n 3 c.in_default.rest.0.0.0.1,
+      ne_eqb n 1 c.in_default.in_default-own.rest.0.0.0.0.0.1,
+      ne_eqb n 2 c.in_default.in_default-own.rest.0.0.0.0.1,
+      ne_eqb n 3 c.in_default.in_default-own.rest.0.0.0.1,
       ne_eqb n 4
-          c.in_default.rest.0.0.1,
-      ne_eqb n 5 c.in_default.rest.0.1,
-      ne_eqb n 6 c.in_default.rest.1,
+          c.in_default.in_default-own.rest.0.0.1,
+      ne_eqb n 5 c.in_default.in_default-own.rest.0.1,
+      ne_eqb n 6 c.in_default.in_default-own.rest.1,
     )
 
 pub element_of_spec : {M : Type 1} → statement M

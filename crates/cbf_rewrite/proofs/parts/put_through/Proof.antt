@@ -56,7 +56,7 @@ put-span-requires c κs =
 returns : tie.Need-returns
 returns c =
     let u = c.before.before in
-    let m = u.before.before.before.before in
+    let m = u.before.before.before.before.before in
     let s = m.before.before.before.before.before in
     put_both s.args.out.now s.args.at (before s) (span s) (after-copy m) u.put_span.ensures
 

@@ -1,7 +1,6 @@
 -- `spans_from` meets its contract: the invariant is `Rewriting`, and each need is one law of it. Assumes nothing.
 use mathlib.Core.Path.{◌≡◌, sym, ◌∙◌}
 use mathlib.Core.List.{List}
-use mathlib.Core.Logic.{⊎_elim}
 use Prim.Native.Nat.{ℕ, ◌-◌, ◌≤◌, ◌<◌}
 use native.Mathlib.Omega.{arith}
 use borrow.Author.Rules.{rules}
@@ -17,6 +16,7 @@ use Rattle.cbf_rewrite.proofs.RewriteLaws.{rewriting-end, rewriting-less, rewrit
 use Rattle.cbf_rewrite.proofs.RewriteLaws.{rewriting-chosen, rewriting-few}
 use Rattle.cbf_rewrite.proofs.rewrite.spans_from.Statement.{statement}
 use Rattle.cbf_format.specs.Files as F
+use Rattle.cbf_rewrite.proofs.rewrite.spans_from.Lts.{then-cursor-numbers, else-cursor-numbers}
 use Rattle.cbf_rewrite.proofs.rewrite.spans_from.Tie as tie
 
 abbrev invariant-loop : tie.invariant-loop-k
@@ -50,24 +50,21 @@ same_length c = rewriting-kept c.loop-k.invariant
 
 returns : tie.Need-returns-in-Refused invariant-loop decreases-loop
 returns c =
-    let m = c.before.before.before in
-    absurd (rewriting-refused m.loop-k.invariant (more m) c.in-Refused.is)
+    absurd (rewriting-refused c.loop-k.invariant (more c.before) c.in-Refused.is)
 
 same-length-2 : tie.Need-shape_of-out-in-End invariant-loop decreases-loop
 same-length-2 c = rewriting-kept c.loop-k.invariant
 
 returns-2 : tie.Need-returns-in-End invariant-loop decreases-loop
 returns-2 c =
-    let m = c.before.before in
-    absurd (rewriting-end m.loop-k.invariant (more m) c.in-End.is)
+    absurd (rewriting-end c.loop-k.invariant (more c.before) c.in-End.is)
 
 add-if1 : tie.Need-overflow_add-cursor invariant-loop decreases-loop
 add-if1 c =
-    let m = c.before.before.before.before in
-    record { fits = omega (arith, rewriting-few m.loop-k.invariant (more m)) }
+    record { fits = omega (arith, rewriting-few c.loop-k.invariant (more c.before.before)) }
 
 shared-slice-read-if1 : tie.Need-bounds-numbers-k invariant-loop decreases-loop
-shared-slice-read-if1 c = more c.before.before.before.before.before
+shared-slice-read-if1 c = more c.before.before.before
 
 -- where the section is chosen: there is an end and a size for it, and its frame is one of the frames
 
@@ -101,7 +98,7 @@ module _ (l : tie.At-loop-k invariant-loop decreases-loop) (ahead : More l) wher
   frame_is = sym (slice-part frames first end chosen.low chosen.high)
 
 abbrev test : tie.Then-cursor-numbers invariant-loop decreases-loop → tie.In-loop-k invariant-loop decreases-loop
-test t = t.before.before.before.before.before.before
+test t = t.before.before.before.before
 
 here : (t : tie.Then-cursor-numbers invariant-loop decreases-loop) → Chosen (test t).before (more (test t))
 here t = chosen (test t).before (more (test t))
@@ -119,7 +116,7 @@ shared-slice-read-pass-span : tie.Need-bounds-sizes-k invariant-loop decreases-l
 shared-slice-read-pass-span c = (here c.before.before).size_there
 
 mul-pass-span-2 : tie.Need-offset_bounds-frames-first invariant-loop decreases-loop
-mul-pass-span-2 c = let t = c.before.before in omega (arith, here t, (start (test t).before).good)
+mul-pass-span-2 c = let t = c.before.before in omega (arith, here t, (start (test t).before).well_formed)
 
 sub-pass-span : tie.Need-slice_bounds-pass_span-count invariant-loop decreases-loop
 sub-pass-span c = (here c.before.before).low
@@ -141,23 +138,23 @@ pass-span-requires c κs =
 
 loop-less : tie.Need-loop-k-smaller invariant-loop decreases-loop
 loop-less c =
-    let n = c.before.before.before.before.before in
-    let m = n.before.before in
-    let r = m.loop-k.invariant in
-    rw r.pre.accepted (rewriting-less r (more m) n.in-Found.is)
+    let r = c.loop-k.invariant in
+    rw r.pre.accepted (rewriting-less r (more c.before.before.before.before.before) c.in-Found.is)
 
 loop-again : tie.Need-loop-k-preserved invariant-loop decreases-loop
 loop-again c =
-    let n = c.before.before.before.before.before in
-    let m = n.before.before in
-    let r = m.loop-k.invariant in
-    ⊎_elim
-    (λ w. rewriting-chosen r (more m) is w.0.taken (frame_is m.before (more m)) (w.12 ∙ w.5.ensures.0)
-    (w.8 ∙ w.5.ensures.1) (omega (arith, w.9)) w.10 w.11
-    (λ h. c.section_ahead-next.ensures (lt-ltb _ _ h)))
-    (λ w. rewriting-other r (more m) is w.0.left w.2 w.3 w.4 w.5 w.1
-    (λ h. c.section_ahead-next.ensures (lt-ltb _ _ h)))
-    c.if-cursor-numbers.branch-raw
+    let m = c.before.before.before.before.before in
+    let r = c.loop-k.invariant in
+    let is = c.in-Found.is in
+    elim c.if-cursor-numbers.branch [
+      | then-cursor-numbers w ↦
+          rewriting-chosen r (more m) is w.if-cursor-numbers.true (frame_is m.before (more m))
+          (w.at-is ∙ w.pass_span-at.ensures.0) (w.out-is ∙ w.pass_span-at.ensures.1) (omega (arith, w.k-is)) w.first-is w.from-is
+          (λ h. c.section_ahead-next.ensures (lt-ltb _ _ h))
+      | else-cursor-numbers w ↦
+          rewriting-other r (more m) is w.if-cursor-numbers.false w.k-is w.first-is w.from-is w.at-is w.out-is
+          (λ h. c.section_ahead-next.ensures (lt-ltb _ _ h))
+    ]
 
 -- after the last chosen section
 
