@@ -76,7 +76,7 @@ returns c =
     let s = again r in
     let f = r.refill-filled.ensures.0.0 in
     let q = c.part-p.ensures in
-    turn-fails s f q (c.if-not-p.true)
+    turn-fails s f q (not-true _ c.if-not-p.true)
 
 add-k : tie.Need-overflow_add-k invariant-loop decreases-loop
 add-k c =
@@ -93,7 +93,7 @@ loop-less c =
     let f = r.refill-filled.ensures.0.0 in
     let q = c.part-p.ensures in
     let h = c.loop-k-test.true in
-    omega (arith, turn-few s f q, turn-moves s f q h r.refill-filled.ensures.1.0 (c.if-not-p.false))
+    omega (arith, turn-few s f q, turn-moves s f q h r.refill-filled.ensures.1.0 (not-false _ c.if-not-p.false))
 
 loop-again : tie.Need-loop-k-preserved invariant-loop decreases-loop
 loop-again c =
@@ -102,7 +102,7 @@ loop-again c =
     let f = r.refill-filled.ensures.0.0 in
     let q = c.part-p.ensures in
     let p = r.requires in
-    turned s f q (λ w. (p.4 w).1) (c.if-not-p.false)
+    turned s f q (λ w. (p.4 w).1) (not-false _ c.if-not-p.false)
 
 same-length-2 : tie.Need-shape_of-out-then-w-ne0 invariant-loop decreases-loop
 same-length-2 c = done-length c.loop-k.invariant.done

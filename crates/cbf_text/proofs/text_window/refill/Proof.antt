@@ -6,7 +6,7 @@ use Rattle.cbf_text.proofs.text_window.refill.Tie as tie
 
 returns : tie.Need-returns-then-w-got
 returns c =
-    let S = c.before.before.before.before.before.before.before.before.before.before.before.before.before.before.before in
+    let S = c in
     let a = S.args in
     let d = c.decode-d in
     let s = c.slide in
@@ -14,7 +14,7 @@ returns c =
 
 returns-2 : tie.Need-returns
 returns-2 c =
-    let S = c.before.before.before.before.before.before.before.before.before.before.before.before.before.before.before in
+    let S = c in
     let a = S.args in
     let d = c.decode-d in
     let s = c.slide in

@@ -25,7 +25,7 @@ octets-per-requires c κs = tt
 
 loop-holds : tie.Need-loop-k-init invariant-loop decreases-loop
 loop-holds c =
-    let S = c.before.before in
+    let S = c in
     let a = S.args in
     let p = S.requires in
     (omega arith, loaded-none a.kind c.octets_per-width.result a.file.now a.from a.to _ a.out.now _ a.size p.0 p.3 refl refl)
@@ -45,24 +45,35 @@ div-least c = omega (arith, has-octets c.args.kind)
 least-requires : tie.Need-least-n-requires invariant-loop decreases-loop
 least-requires c κs = tt
 
+-- the window has the octets of a pixel
+one-pixel : (c : tie.After-struct_known-1 invariant-loop decreases-loop)
+    → c.octets_per-width.result ≤ c.refill-v.result.have
+one-pixel c =
+    let a = c.args in
+    let e = c.octets_per-width.ensures in
+    let r = c.refill-v in
+    let k = c.loop-k-test.true in
+    let A = all-octets a.kind a.count a.size _ c.requires.4 c.requires.3 ∙ ap (λ (i : ℕ). i * a.count) (sym e.0) in
+    some-octets a.kind _ a.file.now a.from a.to _ a.out.now
+    c.loop-k.invariant.1 r.ensures.0.0 r.ensures.0.1
+    r.ensures.0.2 r.ensures.1.2 a.count A k e.1 r.ensures.1.0
+
 -- the window has the octets of the n pixels, and there is one
 turn : (c : tie.After-least-n invariant-loop decreases-loop)
     → (c.least-n.result * c.octets_per-width.result ≤
     c.refill-v.result.have) × (0 < c.least-n.result)
 turn c =
-    let S = c.before.before.before.before.before.before.before.before.before in
-    let a = S.args in
-    let e = c.octets_per-width.ensures in
-    let r = c.refill-v in
     let k = c.loop-k-test.true in
-    let A = all-octets a.kind a.count a.size _ S.requires.4 S.requires.3 ∙ ap (λ (i : ℕ). i * a.count) (sym e.0) in
-    let o = some-octets a.kind _ a.file.now a.from a.to _ a.out.now
-    c.loop-k.invariant.1 r.ensures.0.0 r.ensures.0.1
-    r.ensures.0.2 r.ensures.1.2 a.count A k e.1 r.ensures.1.0 in
-    whole-pixels c.least-n.result _ _ _ (omega (arith, has-octets a.kind)) o (omega arith) c.least-n.ensures.1 c.least-n.ensures.2
+    whole-pixels c.least-n.result _ _ _ (omega (arith, has-octets c.args.kind)) (one-pixel c.before) (omega arith)
+    c.least-n.ensures.1 c.least-n.ensures.2
 
 mul-used : tie.Need-overflow_mul-used invariant-loop decreases-loop
-mul-used c = record { fits = omega (arith, (turn c).0) }
+mul-used c =
+    let k = c.loop-k-test.true in
+    let n = c.least-n.ensures in
+    let t = whole-pixels c.least-n.result _ _ _ (omega (arith, has-octets c.args.kind)) (one-pixel c.before)
+    (omega arith) n.1 n.2 in
+    record { fits = omega (arith, t.0) }
 
 array-share-prefix-window : tie.Need-slice_bounds-window-end invariant-loop decreases-loop
 array-share-prefix-window c = omega (arith, (turn c).0)
@@ -78,7 +89,7 @@ loop-less c = omega (arith, (turn c.before.before.before.before).1)
 
 loop-again : tie.Need-loop-k-preserved invariant-loop decreases-loop
 loop-again c =
-    let S = c.before.before.before.before.before.before.before.before.before.before.before.before.before in
+    let S = c in
     let a = S.args in
     let r = c.refill-v in
     let l = c.loop-k in
@@ -95,7 +106,7 @@ same_length c = c.loop-k.invariant.1.front.size
 
 returns : tie.Need-returns invariant-loop decreases-loop
 returns c =
-    let S = c.before.before.before.before in
+    let S = c in
     let a = S.args in
     let l = c.loop-k in
     loaded a.kind _ _ l.k a.count _ a.out.now l.out refl c.octets_per-width.ensures.0

@@ -8,7 +8,6 @@ use mathlib.Core.List.{List, ◌++◌}
 use lib.ListN.{length, take, drop}
 use lib.IntN.{ℤ}
 use borrow.Author.Rules.{rules}
-use borrow.Author.Tests.{not-true, not-false}
 use Rattle.cbf_pixels.specs.PixelCalls.{unpack_pixels, is_some, pixels_of}
 use Rattle.cbf_pixels.specs.Pixels.{unpack_byte_offset}
 use Rattle.cbf_pixels.specs.Uncompressed.{octets_per}
@@ -29,12 +28,12 @@ uncompressed-unpacks t n size os e h = uncompressed-some t n (octets_per t) (tak
 returns : tie.Need-returns-then-out-count
 unfolding Unpacked
 returns c =
-    let S = c.before.before.before.before.before in
+    let S = c in
     let a = S.args in
     let os = text_octets a.file.now a.from a.to in
     let u = unpack-no-room Uncompressed a.kind a.count (take a.size os) a.out.now S.requires.4
-    (uncompressed-unpacks a.kind a.count a.size os (S.requires.5 e) S.requires.3) c.if-out-count.true in
-    rw e (c.refused.ensures ∙ u.0, u.1)
+    (uncompressed-unpacks a.kind a.count a.size os (S.requires.5 c.in-Uncompressed.is) S.requires.3) c.if-out-count.true in
+    rw c.in-Uncompressed.is (c.refused.ensures ∙ u.0, u.1)
 
 unpack-uncompressed-requires : tie.Need-unpack_uncompressed-requires
 unpack-uncompressed-requires c κs =
@@ -49,7 +48,7 @@ pass-requires c κs =
 returns-2 : tie.Need-returns-then-not-pass
 unfolding Unpacked unpack_pixels
 returns-2 c =
-    let S = c.before.before.before.before.before.before.before.before in
+    let S = c in
     let a = S.args in
     let E = c.pass.ensures in
     let u = unpack-bad ByteOffset a.kind a.count (take a.size (text_octets a.file.now a.from a.to))
@@ -59,7 +58,7 @@ returns-2 c =
 returns-3 : tie.Need-returns-then-out-count-2
 unfolding Unpacked unpack_pixels
 returns-3 c =
-    let S = c.before.before.before.before.before.before.before.before.before in
+    let S = c in
     let a = S.args in
     let E = c.pass.ensures in
     let u = unpack-no-room ByteOffset a.kind a.count (take a.size (text_octets a.file.now a.from
@@ -84,17 +83,17 @@ pass-requires-2 c κs =
 returns-4 : tie.Need-returns-else-out-count
 unfolding Unpacked unpack_pixels
 returns-4 c =
-    let S = c.before.before.before.before.before.before.before in
+    let S = c in
     let a = S.args in
     let os = text_octets a.file.now a.from a.to in
-    rw e (unpack-done Uncompressed a.kind a.count (take a.size os) a.out.now _ S.requires.4
-    (uncompressed-unpacks a.kind a.count a.size os (S.requires.5 e) S.requires.3)
+    rw c.in-Uncompressed.is (unpack-done Uncompressed a.kind a.count (take a.size os) a.out.now _ S.requires.4
+    (uncompressed-unpacks a.kind a.count a.size os (S.requires.5 c.in-Uncompressed.is) S.requires.3)
     c.if-out-count.false c.unpack_uncompressed.ensures)
 
 returns-5 : tie.Need-returns-else-out-count-2
 unfolding Unpacked unpack_pixels
 returns-5 c =
-    let S = c.before.before.before.before.before.before.before.before.before.before.before in
+    let S = c in
     let a = S.args in
     let E = c.pass.ensures in
     let os = text_octets a.file.now a.from a.to in
