@@ -26,9 +26,8 @@ framed : (b : tie.In-As)
     × (section_numbered (F.read a.limit a.file.now) a.number ≡ value p)
     × FrameOf a.file.now p b.in-As.s
 framed b =
-    let m = b.before.before in
-    let a = m.args in
-    frame-of a.limit a.number a.file.now b.in-As.s (said m b.in-As.is)
+    let a = b.args in
+    frame-of a.limit a.number a.file.now b.in-As.s (said b.before b.in-As.is)
 
 unpack-octets-requires : tie.Need-unpack_octets-requires
 unpack-octets-requires c κs =
@@ -37,19 +36,15 @@ unpack-octets-requires c κs =
 
 returns : tie.Need-returns-in-Refused
 returns c =
-    let b = c.before in
-    let m = b.before.before in
-    let a = m.args in
-    frame_refused a.file.now a.number (F.read a.limit a.file.now) b.in-Refused.r a.out.now (said m b.in-Refused.is)
+    let a = c.args in
+    frame_refused a.file.now a.number (F.read a.limit a.file.now) c.in-Refused.r a.out.now (said c.before c.in-Refused.is)
 
 returns-2 : tie.Need-returns-in-As
 returns-2 c =
-    let u = c.before.before in
-    let b = u.before.before.before in
-    let a = b.args in
-    let f = framed b in
+    let a = c.args in
+    let f = framed c.before.before.before.before in
     let q = frame-says a.limit a.number a.file.now f.1 f.2 a.out.now in
-    (c.placed.ensures ∙ ap (placed_at b.in-As.s.first) (u.unpack_octets.ensures.0 f.0 f.2) ∙ q.0, u.unpack_octets.ensures.1 f.0 f.2 ∙ q.1)
+    (c.placed.ensures ∙ ap (placed_at c.in-As.s.first) (c.unpack_octets.ensures.0 f.0 f.2) ∙ q.0, c.unpack_octets.ensures.1 f.0 f.2 ∙ q.1)
 
 pub unpack_spec : {M : Type 1} → statement M
 unpack_spec =

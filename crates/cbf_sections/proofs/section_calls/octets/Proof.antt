@@ -1,6 +1,5 @@
 -- `octets` meets its contract, by that of `octets_at`: the place is in the file. Assumes nothing.
 use mathlib.Core.Path.{◌≡◌, ◌∙◌, sym, ap, subst}
-use mathlib.Core.Logic.{⊎_elim}
 use native.Mathlib.Omega.{arith}
 use Rattle.cbf_format.specs.SectionCalls.{octets_of, octets_part, place_of}
 use Rattle.cbf_format.specs.declared.OctetsPlace.{OctetsPlace}
@@ -8,6 +7,7 @@ use Rattle.cbf_sections.proofs.SectionCallsLaws.{PartAt, PartFor, part-taken, pa
 use borrow.Author.Rules.{rules}
 use Rattle.cbf_sections.proofs.section_calls.octets.Statement.{statement}
 use Rattle.cbf_format.specs.Files as F
+use Rattle.cbf_sections.proofs.section_calls.octets.Lts.{in-Refused, in-At}
 use Rattle.cbf_sections.proofs.section_calls.octets.Tie as tie
 
 -- the part of the file at the place that was answered
@@ -21,18 +21,18 @@ part m e =
     (sym m.octets_at-place.ensures ∙ ap place_of e)
     (part_at a.limit a.number file)
 
-joined : (c : tie.At-match-branch)
+joined : (c : tie.Joined-place)
     → let a = c.args in
-    PartAt a.file.now (octets_part (octets_of (F.read a.limit a.file.now) a.number)) c.in-Refused.from c.in-Refused.to
-joined c = ⊎_elim
-    (λ w. rw (w.3, w.4) (part c.before w.1.given.1))
-    (λ w. rw (w.3, w.4) (part c.before w.1.given.1))
-    c.in-Refused.branch-raw
+    PartAt a.file.now (octets_part (octets_of (F.read a.limit a.file.now) a.number)) c.match-place.from c.match-place.to
+joined c =
+    elim c.match-place.branch [
+      | in-Refused w ↦ rw (w.from-is, w.to-is) (part c.before w.in-Refused.is)
+      | in-At w ↦ rw (w.from-is, w.to-is) (part c.before w.in-At.is)
+    ]
 
 add-to : tie.Need-overflow_add-to
 add-to c =
-    let b = c.before in
-    let p = part b.before.before b.in-At.is in
+    let p = part c.before c.in-At.is in
     omega (arith, p.high)
 
 sub-result : tie.Need-slice_bounds-result-count

@@ -19,10 +19,10 @@ said m e =
     ∙ place-outcome (octets_of (F.read a.limit a.file.now) a.number)
 
 returns : tie.Need-returns-in-Refused
-returns c = said c.before.before.before c.in-Refused.is
+returns c = said c.before c.in-Refused.is
 
 returns-2 : tie.Need-returns-in-At
-returns-2 c = said c.before.before.before c.in-At.is
+returns-2 c = said c.before c.in-At.is
 
 pub octets_answer_spec : {M : Type 1} → statement M
 octets_answer_spec =

@@ -18,13 +18,13 @@ said m e =
     ∙ place_in a.limit a.number a.file.now m.numbered_section-numbered.result m.numbered_section-numbered.ensures
 
 returns : tie.Need-returns-in-Refused
-returns c = said c.before.before.before c.in-Refused.is
+returns c = said c.before c.in-Refused.is
 
 returns-2 : tie.Need-returns-in-Binary
-returns-2 c = let b = c.before.before.before.before in rw c.in-Binary.is at (said b.before.before b.in-As.is)
+returns-2 c = rw c.in-Binary.is at (said c.before.before.before c.in-As.is)
 
 returns-3 : tie.Need-returns-in-Base64
-returns-3 c = let b = c.before.before.before.before in rw c.in-Base64.is at (said b.before.before b.in-As.is)
+returns-3 c = rw c.in-Base64.is at (said c.before.before.before c.in-As.is)
 
 pub octets_at_spec : {M : Type 1} → statement M
 octets_at_spec =

@@ -14,10 +14,10 @@ said : (m : tie.After-count_sections-count) {x : Count} → m.count_sections-cou
 said m e = let a = m.args in ap count_says (sym e ∙ m.count_sections-count.ensures) ∙ count-outcome (F.read a.limit a.file.now)
 
 returns : tie.Need-returns-in-Refused
-returns c = said c.before.before.before c.in-Refused.is
+returns c = said c.before c.in-Refused.is
 
 returns-2 : tie.Need-returns-in-Sections
-returns-2 c = said c.before.before.before c.in-Sections.is
+returns-2 c = said c.before c.in-Sections.is
 
 pub read_spec : {M : Type 1} → statement M
 read_spec =
