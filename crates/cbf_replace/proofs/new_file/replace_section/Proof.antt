@@ -24,33 +24,27 @@ returns c =
 
 rewrite-file-requires : tie.Need-rewrite_file-requires
 rewrite-file-requires c κs =
-    let z = c.before.before.before.before.before in
-    let m = z.before.before in
-    let s = m.before.before.before.before in
-    let a = s.args in
-    one-rewritable s.requires.0 a.frame.now
-    (frame-packed a.d a.frame.now (new s) a.out.now (sym z.in-Octets.is ∙ m.octet_count-size.ensures))
-    (omega (arith, s.requires.1, m.if-frame-d.false))
+    let s = c.before.before.before.before.before.before.before.before.before in
+    let a = c.args in
+    one-rewritable c.requires.0 a.frame.now
+    (frame-packed a.d a.frame.now (new s) a.out.now (sym c.in-Octets.is ∙ c.octet_count-size.ensures))
+    (omega (arith, c.requires.1, c.if-frame-d.false))
 
 returns-2 : tie.Need-returns-in-Outside
 returns-2 c =
-    let m = c.before.before.before in
-    let s = m.before.before.before.before in
-    let a = s.args in
-    let r = pixel-outside a.d a.frame.now (new s) a.out.now m.if-frame-d.false
-    (sym c.in-Outside.is ∙ m.octet_count-size.ensures) in
+    let s = c.before.before.before.before.before.before in
+    let a = c.args in
+    let r = pixel-outside a.d a.frame.now (new s) a.out.now c.if-frame-d.false
+    (sym c.in-Outside.is ∙ c.octet_count-size.ensures) in
     (c.refused-in-Outside.ensures ∙ r.0, r.1)
 
 returns-3 : tie.Need-returns-in-Octets
 returns-3 c =
-    let f = c.before.before in
-    let z = f.before.before.before.before.before.before in
-    let m = z.before.before in
-    let s = m.before.before.before.before in
-    let a = s.args in
-    frame-fits a.d a.frame.now (new s) a.out.now m.if-frame-d.false
-    (sym z.in-Octets.is ∙ m.octet_count-size.ensures)
-    (one-rewritten s.requires.0 a.frame.now) f.rewrite_file.ensures
+    let s = c.before.before.before.before.before.before.before.before.before.before.before.before in
+    let a = c.args in
+    frame-fits a.d a.frame.now (new s) a.out.now c.if-frame-d.false
+    (sym c.in-Octets.is ∙ c.octet_count-size.ensures)
+    (one-rewritten c.requires.0 a.frame.now) c.rewrite_file.ensures
 
 pub replace_section_spec : {M : Type 1} → statement M
 replace_section_spec =

@@ -23,36 +23,30 @@ here : (b : tie.In-At)
     → let a = b.args in
     (p : Placed) × Here a.limit a.file.now a.number p b.in-At.found
 here b =
-    let m = b.before.before in
-    let a = m.args in
+    let a = b.args in
     here_of a.limit a.number a.file.now b.in-At.found
-    (said m b.in-At.is)
+    (said b.before b.in-At.is)
 
 replace-section-requires : tie.Need-replace_section-requires
 replace-section-requires c κs =
-    let h = (here c.before.before.before.before.before).1 in (h.there, h.few)
+    let h = (here c.before.before.before.before).1 in (h.there, h.few)
 
 returns : tie.Need-returns-in-Refused
 returns c =
-    let b = c.before in
-    let m = b.before.before in
-    let a = m.args in
-    replace-refused a.limit a.file.now a.number b.in-Refused.r a.frame.now a.out.now
-    (said m b.in-Refused.is)
+    let a = c.args in
+    replace-refused a.limit a.file.now a.number c.in-Refused.r a.frame.now a.out.now
+    (said c.before c.in-Refused.is)
 
 returns-2 : tie.Need-returns-in-Binary
 returns-2 c =
-    let u = c.before.before in
-    let b = u.before.before.before.before.before.before.before in
-    let a = b.args in
-    replace-binary (here b).1 a.frame.now a.out.now u.in-Binary.is
-    u.replace_section.ensures
+    let a = c.args in
+    replace-binary (here c.before.before.before.before.before.before.before).1 a.frame.now a.out.now c.in-Binary.is
+    c.replace_section.ensures
 
 returns-3 : tie.Need-returns-in-Base64
 returns-3 c =
-    let b = c.before.before.before.before.before in
-    let a = b.args in
-    let r = replace-text (here b).1 a.frame.now a.out.now c.in-Base64.is in
+    let a = c.args in
+    let r = replace-text (here c.before.before.before.before).1 a.frame.now a.out.now c.in-Base64.is in
     (c.refused.ensures ∙ r.0, r.1)
 
 pub replace_spec : {M : Type 1} → statement M
