@@ -16,7 +16,7 @@ returns-3 : tie.Need-returns-in_default
 unfolding compressed
 returns-3 c =
     let n = c.args.number in
-    rw (ne_eqb n 0 c.in_default.in_default-own.rest.0.1, ne_eqb n 1 c.in_default.rest.1)
+    rw (ne_eqb n 0 c.in_default.in_default-own.rest.0.1, ne_eqb n 1 c.in_default.in_default-own.rest.1)
 
 pub compression_of_spec : {M : Type 1} → statement M
 compression_of_spec = tie.close (tie.spec returns returns-2 returns-3)
