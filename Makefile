@@ -77,4 +77,4 @@ test:
 	bash .ci/run
 
 clean:
-	rm -rf target
+	rm -rf target crates/*/out
