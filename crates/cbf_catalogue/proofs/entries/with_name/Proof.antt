@@ -7,7 +7,7 @@ use Rattle.cbf_format.specs.Catalogue.{label_width}
 use Rattle.cbf_catalogue.proofs.entries.with_name.Statement.{statement}
 use Rattle.cbf_catalogue.proofs.entries.with_name.Tie as tie
 
--- No test of the code is named here: a changed one is refused for what it says, and not for its name.
+-- The test of the name's length is not named here: a changed one is refused for what it says, and not for its name.
 
 returns-2 : tie.Need-returns-then-found-from
 returns-2 c =

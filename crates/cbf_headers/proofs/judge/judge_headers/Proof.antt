@@ -45,7 +45,7 @@ header-parts-requires c κs = (headers-at c, c.loop-at-test.true)
 known-requires : tie.Need-known-name-requires invariant-loop decreases-loop
 known-requires c κs = let p = parts_at c in (p.name_in, omega (arith, p.value_in, p.to_in, p.next_in, inside c.before))
 
--- No test of the code is named here: a changed one is refused for what it says, and not for its name.
+-- The test for a repeated header is not named here: a changed one is refused for what it says, and not for its name.
 
 add-known-value : tie.Need-overflow_add-colon invariant-loop decreases-loop
 add-known-value c =

@@ -5,7 +5,7 @@ use Rattle.cbf_pack.proofs.PackingLaws.{Packed, pack-many, ample-write, ample-do
 use Rattle.cbf_pack.proofs.packing.pack.Statement.{statement}
 use Rattle.cbf_pack.proofs.packing.pack.Tie as tie
 
--- No test of the code is named here: a changed one is refused for what it says, and not for its name.
+-- The test of the number of pixels is not named here: a changed one is refused for what it says, and not for its name.
 
 write-octets-requires : tie.Need-write_octets-n-requires
 write-octets-requires c κs =

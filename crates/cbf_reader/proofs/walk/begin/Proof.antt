@@ -10,7 +10,7 @@ use Rattle.cbf_reader.proofs.walk.begin.Tie as tie
 returns : tie.Need-returns-then-file-gt-FILE_LIMIT
 returns c = λ limit. read-long limit c.args.file.now c.if-file-gt-FILE_LIMIT.true
 
--- No test of the code is named here: a changed one is refused for what it says, and not for its name.
+-- The test for an empty file is not named here: a changed one is refused for what it says, and not for its name.
 
 returns-3 : tie.Need-returns
 returns-3 c =
