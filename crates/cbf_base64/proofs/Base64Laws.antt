@@ -1,6 +1,6 @@
 -- The check of BASE64 text against what the text decodes to. Assumes nothing.
 use mathlib.Core.Path.{◌≡◌, refl, sym, ap, ◌∙◌, subst}
-use mathlib.Core.Option.{Option, none, some}
+use Rattle.std.specs.Prelude.{Option, None, Some}
 use mathlib.Core.Bool.{Bool, true, false, ◌&&◌, cond}
 use mathlib.Core.List.{List, [], ◌∷◌, ◌++◌}
 use mathlib.Core.Logic.{◌⊎◌, ⊎_elim, inl, inr}
@@ -17,30 +17,9 @@ use Rattle.cbf_format.specs.declared.Symbol.TheVariants.{Letter, Pad, Blank, Oth
 use Rattle.cbf_format.specs.Base64.{symbol, add_symbol, add_symbols, add_octets, last_group, decode, sized}
 use Rattle.cbf_format.proofs.Base64Laws.{Plain, letter, pad, Plains, no_symbol, more, OctetsIn, decode-octets}
 use Rattle.cbf_base64.specs.declared.base64.Groups.{Groups}
-use Rattle.cbf_lines.specs.declared.text.Class.TheVariants.{Base64Letter}
-use Rattle.cbf_lines.specs.Text.{Run, is_letter, in_class}
+use Rattle.cbf_lines.specs.Text.{Run, is_letter}
 use Rattle.cbf_base64.specs.Base64.{add_symbol_to, add_letters_to, groups_from, groups_of, bytes_from, unused_zero}
 use Rattle.cbf_base64.specs.Base64.{groups_hold, symbolic}
-
--- ---- one symbol more
-
-pub letter-whole : (g : Groups) (n : ℕ) → g.pads ≡ 0 → record {
-  letters = g.letters + 1;
-  pads = g.pads;
-  last =
-      n;
-  broken = g.broken;
-} ≡ add_symbol_to g (Letter n)
-letter-whole g n e = rw (eq-eqb g.pads 0 e)
-
-pub letter-broken : (g : Groups) (n : ℕ) → (g.pads ≡ 0 → ⊥) → record {
-  letters = g.letters + 1;
-  pads = g.pads;
-  last
-      = n;
-  broken = true;
-} ≡ add_symbol_to g (Letter n)
-letter-broken g n e = rw (ne_eqb g.pads 0 e)
 
 -- ---- the check's answer
 
@@ -59,9 +38,6 @@ module _ (g : Groups) (size : ℕ) where
   unfolding groups_hold
   whole m e d s = rw (e, eq-eqb ((g.letters + g.pads) % 4) 0 d, s)
 
-  pub held : g.broken ≡ false → (g.letters + g.pads) % 4 ≡ 0 → g.letters * 3 / 4 ≡ size → groups_hold g size ≡ unused_zero g.pads g.last
-  held e d s = whole size e d s ∙ rw (eq-eqb size size refl)
-
   pub not-broken : g.broken ≡ true → groups_hold g size ≡ false
   unfolding groups_hold
   not-broken e = rw e
@@ -70,27 +46,10 @@ module _ (g : Groups) (size : ℕ) where
   unfolding groups_hold
   not-part d = rw (ne_eqb ((g.letters + g.pads) % 4) 0 d, and-false)
 
-  pub not-sized : (g.letters * 3 / 4 ≡ size → ⊥) → groups_hold g size ≡ false
-  unfolding groups_hold
-  not-sized s = rw (ne_eqb (g.letters * 3 / 4) size s, and-false, and-false)
-
   pub not-padded : 2 < g.pads → groups_hold g size ≡ false
   unfolding groups_hold unused_zero
   not-padded h =
       rw (ne_eqb g.pads 0 (λ e. omega arith), ne_eqb g.pads 1 (λ e. omega arith), ne_eqb g.pads 2 (λ e. omega arith), and-false, and-false, and-false)
-
-module _ (pads last : ℕ) where
-  pub unused-0 : pads ≡ 0 → unused_zero pads last ≡ true
-  unfolding unused_zero
-  unused-0 e = rw e
-
-  pub unused-1 : pads ≡ 1 → unused_zero pads last ≡ eqb (last % 4) 0
-  unfolding unused_zero
-  unused-1 e = rw e
-
-  pub unused-2 : pads ≡ 2 → unused_zero pads last ≡ eqb (last % 16) 0
-  unfolding unused_zero
-  unused-2 e = rw e
 
 -- ---- what symbols after a state do to it
 
@@ -133,8 +92,8 @@ over g size {l} h p far = ⊎_elim (λ e. not-broken (groups_from g l) size e) (
 
 -- k groups, and these octets after them
 abbrev pub sized_after : ℕ → ℕ → Option (List ℕ) → Bool
-sized_after k size none = false
-sized_after k size (some os) = eqb (k * 3 + length os) size
+sized_after k size None = false
+sized_after k size (Some os) = eqb (k * 3 + length os) size
 
 module _ (size k : ℕ) where
   last-octets : (b : Bool) (os : List ℕ) → (eqb (k * 3 + length os) size && b) ≡ sized_after k size (last_group b os)
@@ -142,8 +101,8 @@ module _ (size k : ℕ) where
   last-octets false os = and-false (eqb (k * 3 + length os) size)
 
   three-octets : (a b c : ℕ) (o : Option (List ℕ)) → sized_after (suc k) size o ≡ sized_after k size (add_octets (a ∷ b ∷ c ∷ []) o)
-  three-octets a b c none = refl
-  three-octets a b c (some os) =
+  three-octets a b c None = refl
+  three-octets a b c (Some os) =
       let e : suc k * 3 + length os ≡ k * 3 + suc (suc (suc (length os))) = omega arith in
       ap (λ (m : ℕ). eqb m size) e
 
@@ -155,7 +114,7 @@ module _ (size k n x : ℕ) (e : n ≡ k * 4) where
   short : {l : List Symbol} → Plains l → (length l % 4 ≡ 0 → ⊥) → groups_hold (groups_from (start n x) l) size ≡ false
   short {l} p far = not-part (groups_from (start n x) l) size (λ d. far (omega (arith, total (start n x) p)))
 
-  ended : groups_hold (groups_from (start n x) []) size ≡ sized_after k size (some [])
+  ended : groups_hold (groups_from (start n x) []) size ≡ sized_after k size (Some [])
   unfolding groups_from unused_zero
   ended = whole (start n x) size (k * 3 + 0) refl (omega arith) (omega arith) ∙ and-true (eqb (k * 3 + 0) size)
 
@@ -194,8 +153,8 @@ sized-after size k n x e (more a (more b (more c (more d p)))) = four size k n x
 
 pub record Decoded (size : ℕ) (l : List Symbol) : Type 0 where
   pub os : List ℕ
-  pub decodes : decode l ≡ some os
-  pub fits : sized size (decode l) ≡ some os
+  pub decodes : decode l ≡ Some os
+  pub fits : sized size (decode l) ≡ Some os
   pub count : length os ≡ size
   pub each : Octets os
 
@@ -208,28 +167,28 @@ module _ (size : ℕ) {l : List Symbol} (p : Plains l) where
   held-decodes h = go (decode l) refl (sym held-sized ∙ h) (decode-octets p)
     where
       go : (o : Option (List ℕ)) → decode l ≡ o → sized_after 0 size o ≡ true → OctetsIn o → Decoded size l
-      go none q t k = let z : ◌≡◌ {A = ℕ} 0 1 = cc in absurd (omega arith)
-      go (some os) q t k =
+      go None q t k = let z : ◌≡◌ {A = ℕ} 0 1 = cc in absurd (omega arith)
+      go (Some os) q t k =
           let e : length os ≡ size = omega (arith, eqb-true (0 * 3 + length os) size t) in
           record { os = os; decodes = q; fits = rw q (rw (eq-eqb (length os) size e)); count = e; each = k }
 
-  pub sized-held : (os : List ℕ) → sized size (decode l) ≡ some os → groups_hold (groups_of l) size ≡ true
+  pub sized-held : (os : List ℕ) → sized size (decode l) ≡ Some os → groups_hold (groups_of l) size ≡ true
   sized-held os h = held-sized ∙ go (decode l) h
     where
-      go : (o : Option (List ℕ)) → sized size o ≡ some os → sized_after 0 size o ≡ true
-      go none h = let z : ◌≡◌ {A = ℕ} 0 1 = cc in absurd (omega arith)
-      go (some xs) h = test (eqb (length xs) size) refl h
+      go : (o : Option (List ℕ)) → sized size o ≡ Some os → sized_after 0 size o ≡ true
+      go None h = let z : ◌≡◌ {A = ℕ} 0 1 = cc in absurd (omega arith)
+      go (Some xs) h = test (eqb (length xs) size) refl h
         where
-          test : (t : Bool) → eqb (length xs) size ≡ t → cond t (some xs) none ≡ some os → eqb (0 * 3 + length xs) size ≡ true
+          test : (t : Bool) → eqb (length xs) size ≡ t → cond t (Some xs) None ≡ Some os → eqb (0 * 3 + length xs) size ≡ true
           test true q r = eq-eqb (0 * 3 + length xs) size (omega (arith, eqb-true (length xs) size q))
           test false q r = let z : ◌≡◌ {A = ℕ} 0 1 = cc in absurd (omega arith)
 
-  pub not-held-sized : groups_hold (groups_of l) size ≡ false → sized size (decode l) ≡ none
+  pub not-held-sized : groups_hold (groups_of l) size ≡ false → sized size (decode l) ≡ None
   not-held-sized h = go (decode l) (sym held-sized ∙ h)
     where
-      go : (o : Option (List ℕ)) → sized_after 0 size o ≡ false → sized size o ≡ none
-      go none t = refl
-      go (some os) t = rw (ne_eqb (length os) size (λ e. eqb-false (0 * 3 + length os) size t (omega arith)))
+      go : (o : Option (List ℕ)) → sized_after 0 size o ≡ false → sized size o ≡ None
+      go None t = refl
+      go (Some os) t = rw (ne_eqb (length os) size (λ e. eqb-false (0 * 3 + length os) size t (omega arith)))
 
 -- ---- symbols one after another
 
@@ -294,8 +253,11 @@ letter-more g n s t h k =
 pub letters-count : (g : Groups) (n : ℕ) (s : Symbol) → is_letter s ≡ true → (add_letters_to g n s).letters + (add_letters_to g n s).pads ≡ g.letters + n + g.pads
 letters-count g n s h = rw (letter-number s h).1
 
+abbrev pub letter_byte : ℕ → Bool
+letter_byte b = is_letter (symbol b)
+
 -- the bytes of a text up to m are letters
-module _ {file : List ℕ} {from m : ℕ} (run : Run (in_class Base64Letter) file from m m) where
+module _ {file : List ℕ} {from m : ℕ} (run : Run letter_byte file from m m) where
   pub run-symbolic : Run symbolic file from m m
   unfolding symbolic
   run-symbolic = record {

@@ -1,6 +1,6 @@
 -- The lines of a BASE64 text: what each does to what is left, with the symbols so far. Assumes nothing.
 use mathlib.Core.Path.{◌≡◌, refl, sym, ap, ◌∙◌, subst}
-use mathlib.Core.Option.{Option, none, some}
+use Rattle.std.specs.Prelude.{Option, None, Some, Result, Ok, Err}
 use mathlib.Core.Bool.{Bool, true, false, ◌&&◌, ◌||◌, cond, not}
 use mathlib.Core.List.{List, [], ◌∷◌, ◌++◌, append-nil}
 use Prim.Native.Nat.{ℕ, zero, suc, ◌+◌, ◌-◌, ◌≤◌, ◌<◌}
@@ -27,63 +27,67 @@ use Rattle.cbf_lines.specs.Closing.{ended_at}
 use Rattle.cbf_base64.specs.Base64.{groups_from, groups_of, bytes_from, symbolic}
 use Rattle.cbf_base64.specs.Base64Text.{closing_at, refused_number, base64_line_at, letters_at}
 use Rattle.cbf_base64.specs.declared.base64.Groups.{Groups}
-use Rattle.cbf_lines.specs.declared.closing.Next.{Next}
-use Rattle.cbf_lines.specs.declared.closing.Next.TheVariants.{Missing, At}
 use Rattle.cbf_base64.specs.declared.base64_text.Base64Line.{Base64Line}
-use Rattle.cbf_base64.specs.declared.base64_text.Base64Line.TheVariants.{Refused, Closing, Text}
+use Rattle.cbf_base64.specs.declared.base64_text.Base64Line.TheVariants.{Closing, Text}
 use Rattle.cbf_base64.specs.declared.base64_text.Base64Text.{Base64Text}
-use Rattle.cbf_format.proofs.Slices.{slice-take}
+use Rattle.cbf_format.proofs.Slices.{slice-part}
 use Rattle.cbf_lines.proofs.TextLaws.{same-lengths}
 use Rattle.cbf_base64.proofs.Base64Laws.{groups-bytes}
 use Rattle.cbf_lines.proofs.LineLaws.{Far, Good, line-good, textual-inside, line-run, refused-run}
 use Rattle.cbf_lines.proofs.ClosingLaws.{and_both, ahead, line-ahead, blank-textual, slice-then, ended_at_lem, ended-not}
-use Rattle.cbf_base64.specs.declared.base64_text.Base64Text.TheVariants as T
+use Rattle.cbf_format.specs.declared.Stop.{Stop}
+use Rattle.cbf_format.specs.declared.Stop.TheVariants.{Refused, CutOff}
 
 -- ---- the closing boundary's line
 
 module _ (file : List ℕ) (at : ℕ) (inside : at ≤ length file) where
   -- where the first bytes are not the boundary's, the line is not
-  not-closing : (length closing ≤ length file - at → same (slice at (at + length closing) file) closing ≡ false) → Missing ≡ closing_at at (line (drop at file))
+  not-closing : (length closing ≤ length file - at → same (take (length closing) (drop at file)) closing ≡ false) → None ≡ closing_at at (line (drop at file))
   not-closing h = let g = line-good (drop at file) in go g.0 g.1 g.2 (eqb (length g.0) (length closing)) refl
     where
-      other : (t : List ℕ) (n : ℕ) → line (drop at file) ≡ ok t n → same t closing ≡ false → Missing ≡ closing_at at (line (drop at file))
-      other t n e f = sym (ap (closing_at at) e ∙ ap (λ (b : Bool). cond b (At (at + n)) Missing) f)
+      other : (t : List ℕ) (n : ℕ) → line (drop at file) ≡ ok t n → same t closing ≡ false → None ≡ closing_at at (line (drop at file))
+      other t n e f = sym (ap (closing_at at) e ∙ ap (λ (b : Bool). cond b (Some (at + n)) None) f)
 
-      go : (t : List ℕ) (n : ℕ) → Good (drop at file) t n → (b : Bool) → eqb (length t) (length closing) ≡ b → Missing ≡ closing_at at (line (drop at file))
+      go : (t : List ℕ) (n : ℕ) → Good (drop at file) t n → (b : Bool) → eqb (length t) (length closing) ≡ b → None ≡ closing_at at (line (drop at file))
       go t n g false p = other t n g.reads (same-lengths t closing (eqb-false (length t) (length closing) p))
       go t n g true p =
           let l : length t ≡ length closing = eqb-true (length t) (length closing) p in
           let k = g.short in
           let w = g.within in
-          let s : slice at (at + length closing) file ≡ t = slice-take file at (length closing) inside
-          ∙ ap (λ (j : ℕ). take j (drop at file)) (sym l) ∙ g.front in
+          let s : take (length closing) (drop at file) ≡ t = ap (λ (j : ℕ). take j (drop at file)) (sym l) ∙ g.front in
           other t n g.reads (ap (λ (u : List ℕ). same u closing) (sym s) ∙ h (omega (arith, length-drop at file)))
 
-  pub closing-short : length file - at < length closing → Missing ≡ closing_at at (line (drop at file))
+  pub closing-short : length file - at < length closing → None ≡ closing_at at (line (drop at file))
   closing-short h = not-closing (λ k. absurd (omega arith))
 
-  pub closing-other : same (slice at (at + length closing) file) closing ≡ false → Missing ≡ closing_at at (line (drop at file))
-  closing-other e = not-closing (λ k. e)
+  module _ (to : ℕ) (z : to ≡ at + length closing) where
+    pub closing-other : same (take (to - at) (drop at file)) closing ≡ false → None ≡ closing_at at (line (drop at file))
+    closing-other e =
+        let w : length closing ≡ to - at = omega arith in
+        not-closing (λ k. ap (λ (j : ℕ). same (take j (drop at file)) closing) w ∙ e)
 
-  -- after the boundary the line must end
-  pub closing-ended : (to : ℕ) → to ≡ at + length closing → to ≤ length file → same (slice at to file) closing ≡ true
-      → (r : Next) → r ≡ ended_at to (drop to file) → r ≡ closing_at at (line (drop at file))
-  closing-ended to z h e r q = go r q
-    where
-      front : closing ++ drop to file ≡ drop at file
-      front = ap (λ (l : List ℕ). l ++ drop to file) (sym (same-eq (slice at to file) closing e)) ∙ slice-then file at to (omega arith) h
+    -- after the boundary the line must end
+    pub closing-ended : to ≤ length file → same (take (to - at) (drop at file)) closing ≡ true
+        → (r : Option ℕ) → r ≡ ended_at to (drop to file) → r ≡ closing_at at (line (drop at file))
+    closing-ended h e r q = go r q
+      where
+        part : slice at to file ≡ closing
+        part = slice-part file at to (omega arith) h ∙ same-eq (take (to - at) (drop at file)) closing e
 
-      with-text : (s t : List ℕ) (n : ℕ) → line s ≡ ok t n → closing_at at (line (closing ++ s)) ≡ cond (same t []) (At (at + (length closing + n))) Missing
-      with-text s t n e = ap (closing_at at) (line-ahead closing s refl ∙ ap (ahead closing) e)
+        front : closing ++ drop to file ≡ drop at file
+        front = ap (λ (l : List ℕ). l ++ drop to file) (sym part) ∙ slice-then file at to (omega arith) h
 
-      go : (r : Next) → r ≡ ended_at to (drop to file) → r ≡ closing_at at (line (drop at file))
-      go (At next) q =
-          let v = ended_at_lem file to h q in
-          let p : next ≡ at + (length closing + v.taken) = omega (arith, v.place) in
-          ap At p ∙ sym (ap (λ (s : List ℕ). closing_at at (line s)) (sym front) ∙ with-text (drop to file) [] v.taken v.empty)
-      go Missing q =
-          let v = ended-not file to h q in
-          sym (ap (λ (s : List ℕ). closing_at at (line s)) (sym front) ∙ with-text (drop to file) (get_or file to 0 ∷ v.more) v.taken v.reads)
+        with-text : (s t : List ℕ) (n : ℕ) → line s ≡ ok t n → closing_at at (line (closing ++ s)) ≡ cond (same t []) (Some (at + (length closing + n))) None
+        with-text s t n e = ap (closing_at at) (line-ahead closing s refl ∙ ap (ahead closing) e)
+
+        go : (r : Option ℕ) → r ≡ ended_at to (drop to file) → r ≡ closing_at at (line (drop at file))
+        go (Some next) q =
+            let v = ended_at_lem file to h q in
+            let p : next ≡ at + (length closing + v.taken) = omega (arith, v.place) in
+            ap Some p ∙ sym (ap (λ (s : List ℕ). closing_at at (line s)) (sym front) ∙ with-text (drop to file) [] v.taken v.empty)
+        go None q =
+            let v = ended-not file to h q in
+            sym (ap (λ (s : List ℕ). closing_at at (line s)) (sym front) ∙ with-text (drop to file) (get_or file to 0 ∷ v.more) v.taken v.reads)
 
 -- ---- a line of the text
 
@@ -91,10 +95,17 @@ module _ (file : List ℕ) (at : ℕ) (inside : at ≤ length file) where
 abbrev pub text_line_of : ℕ → List ℕ → Res (List ℕ)
 text_line_of limit s = screen (refused_text limit closing) (line s)
 
+-- the answers, by their parts
+abbrev refused_at : ℕ → ℕ → Result Base64Line Refusal
+refused_at number place = Err (record { number = number; place = place })
+
+abbrev text_of : Groups → ℕ → Result Base64Line Refusal
+text_of h next = Ok (Text h next)
+
 -- a line by the refusal of its bytes
-abbrev line_by : ℕ → Groups → Option (ℕ × ℕ) → List ℕ → ℕ → Base64Line
-line_by at g none t n = Text (bytes_from g t) (at + n)
-line_by at g (some k) t n = Refused (record { number = k.0; place = at + k.1 })
+abbrev line_by : ℕ → Groups → Option (ℕ × ℕ) → List ℕ → ℕ → Result Base64Line Refusal
+line_by at g None t n = Ok (Text (bytes_from g t) (at + n))
+line_by at g (Some k) t n = refused_at k.0 (at + k.1)
 
 -- a symbol is a text byte
 module _ (x : ℕ) where
@@ -139,37 +150,24 @@ symbolic-known x b e = go (is_other (symbol x)) b e
     go false true e = sym e
 
 module _ (file : List ℕ) (at limit : ℕ) (g : Groups) where
-  pub line-closing : (next : ℕ) → At next ≡ closing_at at (line (drop at file)) → Closing next ≡ base64_line_at at g (text_line_of limit (drop at file))
-  line-closing next e = go (line (drop at file)) e
-    where
-      go : (r : Res (List ℕ)) → At next ≡ closing_at at r → Closing next ≡ base64_line_at at g (screen (refused_text limit closing) r)
-      go (bad k p) e = let z : ◌≡◌ {A = ℕ} 0 1 = cc in absurd (omega arith)
-      go cut e = let z : ◌≡◌ {A = ℕ} 0 1 = cc in absurd (omega arith)
-      go (ok t n) e = by (same t closing) refl e
-        where
-          by : (b : Bool) → same t closing ≡ b → At next ≡ cond b (At (at + n)) Missing → Closing next
-              ≡ base64_line_at at g (screen (refused_text limit closing) (ok t n))
-          by true p q = let z : next ≡ at + n = cc in rw (p, z) (rw p)
-          by false p q = let z : ◌≡◌ {A = ℕ} 0 1 = cc in absurd (omega arith)
-
   -- another line, by the refusal of its bytes
-  not-boundary : (t : List ℕ) (n : ℕ) → line (drop at file) ≡ ok t n → Missing ≡ closing_at at (line (drop at file))
+  not-boundary : (t : List ℕ) (n : ℕ) → line (drop at file) ≡ ok t n → None ≡ closing_at at (line (drop at file))
       → base64_line_at at g (text_line_of limit (drop at file)) ≡ line_by at g (refused_symbol limit 0 t) t n
   not-boundary t n e m = ap (λ (r : Res (List ℕ)). base64_line_at at g (screen (refused_text limit closing) r)) e
       ∙ by (same t closing) refl (m ∙ ap (closing_at at) e)
     where
       go : same t closing ≡ false → (o : Option (ℕ × ℕ)) → base64_line_at at g (screen_or o t n) ≡ line_by at g o t n
-      go p none = rw p
-      go p (some k) = refl
+      go p None = rw p
+      go p (Some k) = refl
 
-      by : (b : Bool) → same t closing ≡ b → Missing ≡ cond b (At (at + n)) Missing → base64_line_at at g
+      by : (b : Bool) → same t closing ≡ b → None ≡ cond b (Some (at + n)) None → base64_line_at at g
           (screen_or (refused_text limit closing t) t n) ≡ line_by at g (refused_symbol limit 0 t) t n
       by true p q = let z : ◌≡◌ {A = ℕ} 0 1 = cc in absurd (omega arith)
       by false p q = rw p (go p (refused_symbol limit 0 t))
 
 -- a line that starts with a run of symbols from `at` up to r
 module _ (file : List ℕ) (at limit : ℕ) (g : Groups) {to r : ℕ} (f : Far at limit (length file) to)
-    (run : Run symbolic file at to r) (m : Missing ≡ closing_at at (line (drop at file))) where
+    (run : Run symbolic file at to r) (m : None ≡ closing_at at (line (drop at file))) where
   by-symbols : (t : List ℕ) (n : ℕ) → line (drop r file) ≡ ok t n
       → base64_line_at at g (text_line_of limit (drop at file)) ≡ line_by at g (refused_symbol limit (r - at) t) (slice at r file ++ t) (r - at + n)
   by-symbols t n e =
@@ -180,8 +178,8 @@ module _ (file : List ℕ) (at limit : ℕ) (g : Groups) {to r : ℕ} (f : Far a
       (refused-run file run f.high limit (omega arith) (refused_symbol limit)
       (λ i x t p h. rw (symbolic-textual x p, lt-ltb i limit h, symbolic-known x false p)) t)
 
-  pub line-symbols : (h : Groups) (next : ℕ) → h ≡ bytes_from g (slice at r file) → At next ≡ ended_at r (drop r file)
-      → Text h next ≡ base64_line_at at g (text_line_of limit (drop at file))
+  pub line-symbols : (h : Groups) (next : ℕ) → h ≡ bytes_from g (slice at r file) → Some next ≡ ended_at r (drop r file)
+      → text_of h next ≡ base64_line_at at g (text_line_of limit (drop at file))
   line-symbols h next e q =
       let lo = run.low in
       let hi = run.high in
@@ -189,14 +187,14 @@ module _ (file : List ℕ) (at limit : ℕ) (g : Groups) {to r : ℕ} (f : Far a
       let v = ended_at_lem file r (omega arith) q in
       let z : next ≡ at + (r - at + v.taken) = omega (arith, v.place) in
       let w : h ≡ bytes_from g (slice at r file ++ []) = e ∙ ap (bytes_from g) (sym (append-nil (slice at r file))) in
-      (λ i. Text (w i) (z i)) ∙ sym (by-symbols [] v.taken v.empty)
+      (λ i. text_of (w i) (z i)) ∙ sym (by-symbols [] v.taken v.empty)
 
   -- the byte after the run is refused
   refused-byte : (x : ℕ) (t : List ℕ) → r < length file → x ≡ get_or file r 0 → refused_symbol limit (r - at) (x ∷ t)
-      ≡ some (refused_number x (r - at) limit, r - at)
+      ≡ Some (refused_number x (r - at) limit, r - at)
   refused-byte x t h e = go (textual x) (ltb (r - at) limit) refl refl
     where
-      go : (a b : Bool) → textual x ≡ a → ltb (r - at) limit ≡ b → refused_symbol limit (r - at) (x ∷ t) ≡ some (refused_number x (r - at) limit, r - at)
+      go : (a b : Bool) → textual x ≡ a → ltb (r - at) limit ≡ b → refused_symbol limit (r - at) (x ∷ t) ≡ Some (refused_number x (r - at) limit, r - at)
       go false b p q = rw p
       go true false p q = rw (p, q)
       go true true p q =
@@ -211,20 +209,26 @@ module _ (file : List ℕ) (at limit : ℕ) (g : Groups) {to r : ℕ} (f : Far a
           before false u l = let w = ltb-false r to u in let hi = run.high in let lo = run.low in let y : to
               ≡ r = omega arith in let k = f.limits (omega arith) in absurd (omega arith)
 
-  pub line_refused : Missing ≡ ended_at r (drop r file) → (k : ℕ) → k ≡ refused_number (get_or file r 0) (r - at) limit
-      → Refused (record { number = k; place = r }) ≡ base64_line_at at g (text_line_of limit (drop at file))
+  pub line_refused : None ≡ ended_at r (drop r file) → (k : ℕ) → k ≡ refused_number (get_or file r 0) (r - at) limit
+      → refused_at k r ≡ base64_line_at at g (text_line_of limit (drop at file))
   line_refused q k e =
       let lo = run.low in
       let hi = run.high in
       let fi = f.high in
       let v = ended-not file r (omega arith) q in
       let z : r ≡ at + (r - at) = omega arith in
-      (λ i. Refused (record { number = e i; place = z i }))
+      (λ i. refused_at (e i) (z i))
       ∙ sym (by-symbols (get_or file r 0 ∷ v.more) v.taken v.reads
       ∙ ap (λ (o : Option (ℕ × ℕ)). line_by at g o (slice at r file ++ (get_or file r 0 ∷ v.more)) (r - at + v.taken))
       (refused-byte (get_or file r 0) v.more v.byte refl))
 
 -- ---- one turn of letters, by what its first line is
+
+abbrev stopped : ℕ → ℕ → Result Base64Text Stop
+stopped number place = Err (Refused (record { number = number; place = place }))
+
+abbrev closed_text : Groups → ℕ → ℕ → Result Base64Text Stop
+closed_text g closing next = Ok (record { groups = g; closing = closing; next = next })
 
 module _ (limit f m : ℕ) (s : List ℕ) (lt : 0 < length s) where
   turned : Res (List ℕ) → Res Letters
@@ -256,12 +260,12 @@ module _ (limit f m : ℕ) (s : List ℕ) (lt : 0 < length s) where
       go : (r : Res Letters) → letters_at at next g
           (plus n (then r (λ l. ret (record { symbols = add_symbols t l.symbols; closing = l.closing }))
           (drop n s))) ≡ letters_at at (next + n) (bytes_from g t) r
-      go (bad k p) = let q : next + (n + p) ≡ next + n + p = omega arith in ap (λ (j : ℕ). T.Refused (record { number = k; place = j })) q
+      go (bad k p) = let q : next + (n + p) ≡ next + n + p = omega arith in ap (λ (j : ℕ). stopped k j) q
       go cut = refl
       go (ok l j) =
           let q : next + (n + (j + 0)) ≡ next + n + j = omega arith in
           let b = groups-bytes g t l.symbols in
-          λ i. T.Closed (b i) (at + l.closing) (q i)
+          λ i. closed_text (b i) (at + l.closing) (q i)
 
 no-byte-turn : (limit f m : ℕ) → letters limit closing f m [] ≡ cut
 unfolding letters
@@ -271,11 +275,11 @@ no-byte-turn limit (suc f) m = refl
 -- ---- the loop
 
 -- the text that starts at at
-abbrev pub whole_text : List ℕ → ℕ → ℕ → Base64Text
+abbrev pub whole_text : List ℕ → ℕ → ℕ → Result Base64Text Stop
 whole_text file at limit = letters_at at at (groups_of []) (letters limit closing file_limit 0 (drop at file))
 
 -- the same, from at most f lines from next on
-abbrev pub rest_text : List ℕ → ℕ → ℕ → ℕ → ℕ → Groups → Base64Text
+abbrev pub rest_text : List ℕ → ℕ → ℕ → ℕ → ℕ → Groups → Result Base64Text Stop
 rest_text file at limit f next g = letters_at at next g (letters limit closing f (next - at) (drop next file))
 
 -- the whole gives what the lines from next on give after the symbols g
@@ -298,7 +302,7 @@ passed_none file at limit g e h l = record {
   whole = let q : 0 ≡ at - at = omega arith in (λ i. letters_at at at (sym e i) (letters limit closing file_limit (q i) (drop at file)));
 }
 
-pub passed-all : (file : List ℕ) (at limit next : ℕ) (g : Groups) → Passed file at limit next g → length file ≤ next → T.CutOff ≡ whole_text file at limit
+pub passed-all : (file : List ℕ) (at limit next : ℕ) (g : Groups) → Passed file at limit next g → length file ≤ next → Err CutOff ≡ whole_text file at limit
 passed-all file at limit next g r h =
     sym (r.whole
     ∙ ap (λ (s : List ℕ). letters_at at next g (letters limit closing r.bound (next - at) s)) (drop_of_length-le file h)
@@ -318,10 +322,10 @@ module _ (file : List ℕ) (at limit next : ℕ) (g : Groups) (r : Passed file a
   left = omega (arith, length-drop next file)
 
   -- by what the line that is read is
-  by-line : {P : Type 0} (l : Base64Line) → l ≡ base64_line_at next g (text_line_of limit (drop next file))
-      → ((k p : ℕ) → text_line_of limit (drop next file) ≡ bad k p → l ≡ Refused (record { number = k; place = next + p }) → P)
-      → ((t : List ℕ) (n : ℕ) → text_line_of limit (drop next file) ≡ ok t n → same t closing ≡ true → l ≡ Closing (next + n) → P)
-      → ((t : List ℕ) (n : ℕ) → text_line_of limit (drop next file) ≡ ok t n → same t closing ≡ false → l ≡ Text (bytes_from g t) (next + n) → P)
+  by-line : {P : Type 0} (l : Result Base64Line Refusal) → l ≡ base64_line_at next g (text_line_of limit (drop next file))
+      → ((k p : ℕ) → text_line_of limit (drop next file) ≡ bad k p → l ≡ refused_at k (next + p) → P)
+      → ((t : List ℕ) (n : ℕ) → text_line_of limit (drop next file) ≡ ok t n → same t closing ≡ true → l ≡ Ok (Closing (next + n)) → P)
+      → ((t : List ℕ) (n : ℕ) → text_line_of limit (drop next file) ≡ ok t n → same t closing ≡ false → l ≡ text_of (bytes_from g t) (next + n) → P)
       → P
   by-line {P} l e refused closes text = go (text_line_of limit (drop next file)) refl e
     where
@@ -330,11 +334,11 @@ module _ (file : List ℕ) (at limit next : ℕ) (g : Groups) (r : Passed file a
           (ap (screen (refused_text limit closing)) (sym v.2.reads) ∙ q)
         where
           no : (o : Option (ℕ × ℕ)) (t : List ℕ) (n : ℕ) → screen_or o t n ≡ cut → ⊥
-          no none t n q = let z : ◌≡◌ {A = ℕ} 0 1 = cc in omega arith
-          no (some k) t n q = let z : ◌≡◌ {A = ℕ} 0 1 = cc in omega arith
+          no None t n q = let z : ◌≡◌ {A = ℕ} 0 1 = cc in omega arith
+          no (Some k) t n q = let z : ◌≡◌ {A = ℕ} 0 1 = cc in omega arith
 
       by : (t : List ℕ) (n : ℕ) → text_line_of limit (drop next file) ≡ ok t n → (b : Bool) → same t closing ≡ b → l
-          ≡ cond b (Closing (next + n)) (Text (bytes_from g t) (next + n)) → P
+          ≡ Ok (cond b (Closing (next + n)) (Text (bytes_from g t) (next + n))) → P
       by t n q true p e = closes t n q p e
       by t n q false p e = text t n q p e
 
@@ -343,29 +347,29 @@ module _ (file : List ℕ) (at limit next : ℕ) (g : Groups) (r : Passed file a
       go cut q e = absurd (not-cut q)
       go (ok t n) q e = by t n q (same t closing) refl e
 
-  pub passed-refused : (w : Refusal) → Refused w ≡ base64_line_at next g (text_line_of limit (drop next file)) → T.Refused w ≡ whole_text file at limit
+  pub passed-refused : (w : Refusal) → Err w ≡ base64_line_at next g (text_line_of limit (drop next file)) → Err (Refused w) ≡ whole_text file at limit
   passed-refused w e =
-      by-line (Refused w) e
+      by-line (Err w) e
       (λ k p q h. let z : w ≡ record { number = k; place = next + p } = cc in let u = turn-left in
-      ap T.Refused z ∙ sym (u.2 ∙ ap (letters_at at next g) (refused-turn limit u.0 (next - at) (drop next file) left k p q)))
+      ap (λ (r : Refusal). stopped r.number r.place) z ∙ sym (u.2 ∙ ap (letters_at at next g) (refused-turn limit u.0 (next - at) (drop next file) left k p q)))
       (λ t n q p h. let z : ◌≡◌ {A = ℕ} 0 1 = cc in absurd (omega arith)) (λ t n q p h. let z : ◌≡◌ {A = ℕ} 0 1 = cc in absurd (omega arith))
 
-  pub passed-closing : (after : ℕ) → Closing after ≡ base64_line_at next g (text_line_of limit (drop next file)) → T.Closed g next after ≡ whole_text file at limit
+  pub passed-closing : (after : ℕ) → Ok (Closing after) ≡ base64_line_at next g (text_line_of limit (drop next file)) → closed_text g next after ≡ whole_text file at limit
   unfolding groups_from
   passed-closing after e =
-      by-line (Closing after) e (λ k p q h. let z : ◌≡◌ {A = ℕ} 0 1 = cc in absurd (omega arith))
+      by-line (Ok (Closing after)) e (λ k p q h. let z : ◌≡◌ {A = ℕ} 0 1 = cc in absurd (omega arith))
       (λ t n q p h. let z : after ≡ next + n = cc in let lo = r.low in let y : next ≡ at + (next - at) = omega arith in let u = turn-left in
-      (λ i. T.Closed g (y i) (z i)) ∙ sym (u.2 ∙ ap (letters_at at next g) (closing-turn limit u.0 (next - at) (drop next file) left t n q p)))
+      (λ i. closed_text g (y i) (z i)) ∙ sym (u.2 ∙ ap (letters_at at next g) (closing-turn limit u.0 (next - at) (drop next file) left t n q p)))
       (λ t n q p h. let z : ◌≡◌ {A = ℕ} 0 1 = cc in absurd (omega arith))
 
-  pub passed-text : (h : Groups) (after : ℕ) → Text h after ≡ base64_line_at next g (text_line_of limit (drop next file))
+  pub passed-text : (h : Groups) (after : ℕ) → text_of h after ≡ base64_line_at next g (text_line_of limit (drop next file))
       → h.letters + h.pads ≤ after → Passed file at limit after h × (next < after)
   passed-text h after e few =
-      by-line (Text h after) e (λ k p q h. let z : ◌≡◌ {A = ℕ} 0 1 = cc in absurd (omega arith))
+      by-line (text_of h after) e (λ k p q h. let z : ◌≡◌ {A = ℕ} 0 1 = cc in absurd (omega arith))
       (λ t n q p h. let z : ◌≡◌ {A = ℕ} 0 1 = cc in absurd (omega arith)) more
     where
-      more : (t : List ℕ) (n : ℕ) → text_line_of limit (drop next file) ≡ ok t n → same t closing ≡ false → Text h after
-          ≡ Text (bytes_from g t) (next + n) → Passed file at limit after h × (next < after)
+      more : (t : List ℕ) (n : ℕ) → text_line_of limit (drop next file) ≡ ok t n → same t closing ≡ false → text_of h after
+          ≡ text_of (bytes_from g t) (next + n) → Passed file at limit after h × (next < after)
       more t n q p w =
           let b : h ≡ bytes_from g t = cc in
           let a : after ≡ next + n = cc in

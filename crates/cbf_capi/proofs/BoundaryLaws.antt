@@ -4,7 +4,7 @@ use Prim.Native.Nat.{ℕ, ◌+◌, ◌-◌, ◌^◌, ◌<◌, ◌≤◌}
 use native.Mathlib.Omega.{arith}
 use mathlib.Core.Path.{◌≡◌, refl, sym, ap, ap₂, subst, ◌∙◌}
 use mathlib.Core.List.{List}
-use mathlib.Core.Option.{Option, none, some}
+use Rattle.std.specs.Prelude.{Option, None, Some, Ok, Err, Result as Answered}
 use mathlib.Core.Bool.{Bool, true, false, cond}
 use lib.Dec.{leb}
 use lib.ListN.{length}
@@ -13,8 +13,6 @@ use lib.IntN.{ℤ}
 use borrow.Author.Tests.{leb-true}
 use Rattle.cbf_pixels.specs.declared.ElementType.{ElementType}
 use Rattle.cbf_pixels.specs.declared.Compression.{Compression}
-use Rattle.cbf_capi.specs.declared.Element.{Element}
-use Rattle.cbf_capi.specs.declared.Compressed.{Compressed}
 use Rattle.cbf_pixels.specs.Pixels.{least, greatest, all_within, pack_byte_offset}
 use Rattle.cbf_answers.specs.Answers.{Outcome, gives, refuses, written}
 use Rattle.cbf_pixels.proofs.Bounds.{packed-limit}
@@ -36,12 +34,10 @@ use Rattle.cbf_format.specs.SectionCalls.{Result, refusal, value, or_missing, se
 use Rattle.cbf_format.specs.SectionCalls.{section_outcome, read_outcome, OctetsAnswer, octets_for, octets_of, Place}
 use Rattle.cbf_format.specs.SectionCalls.{octets_place, octets_outcome, frame_of, frame_outcome, Fields, fields_of}
 use Rattle.cbf_format.specs.SectionCalls.{section_fields, numbered_fields, NameInside}
-use Rattle.cbf_format.specs.declared.Numbered.{Numbered}
 use Rattle.cbf_answers.specs.declared.Refusal.{Refusal}
 use Rattle.cbf_capi.specs.declared.MelAnswer.{MelAnswer}
 use Rattle.cbf_capi.specs.declared.MelOctetsAnswer.{MelOctetsAnswer}
 use Rattle.cbf_capi.specs.declared.MelSectionAnswer.{MelSectionAnswer}
-use Rattle.cbf_sections.proofs.SectionCallsLaws.{place_outcome, place-outcome}
 use Rattle.cbf_answers.specs.Rooms.{room_for}
 use Rattle.cbf_format.specs.House.{replaced_file}
 use Rattle.cbf_format.specs.ReplaceCalls.{frame_fits, room_for_file, replace_fitting, replace_for, replace_outcome}
@@ -50,10 +46,7 @@ use Rattle.cbf_format.specs.CatalogueCalls.{catalogued_or, catalogue_outcome}
 use Rattle.cbf_catalogue.proofs.WriteCatalogueLaws.{catalogue-short}
 use Rattle.cbf_capi.specs.Boundary.{pack_call, unpack_call, unpacked_by, returned, returned_octets, returned_section}
 use Rattle.cbf_capi.specs.Boundary.{section_returned, section_refused, block_name, value_of, Narrow, NarrowSection}
-use Rattle.cbf_capi.specs.declared.Element.TheVariants as E
-use Rattle.cbf_capi.specs.declared.Compressed.TheVariants as C
 use Rattle.cbf_walk.specs.Reading as R
-use Rattle.cbf_format.specs.declared.Numbered.TheVariants as N
 use Rattle.cbf_format.specs.declared.Section as D
 
 -- the place of a refusal, or the length, is a number of 32 bits
@@ -114,8 +107,8 @@ catalogue-fits limit file room = go (read limit file) refl
   where
     named : (its : Tree) → read limit file ≡ good its → (o : Option ℕ) → long_name (sections 0 its) ≡ o
         → Fits (catalogued_or o (catalogue (sections 0 its)) room)
-    named its e none q = roomed (catalogue (sections 0 its)) room (omega (arith, catalogue-short limit file its e q))
-    named its e (some p) q =
+    named its e None q = roomed (catalogue (sections 0 its)) room (omega (arith, catalogue-short limit file its e q))
+    named its e (Some p) q =
         omega (arith, long-name-place limit file its p e q, (accepted limit file its e).not_long)
 
     go : (r : Reading (Item State Section)) → read limit file ≡ r → Fits (catalogue_outcome r room)
@@ -141,8 +134,8 @@ section-fits limit file n f each = go (read limit file) refl
     go (good its) e = by (numbered n (sections 0 its)) refl
       where
         by : (o : Option Placed) → numbered n (sections 0 its) ≡ o → Fits (section_outcome (or_missing o) f)
-        by none q = omega arith
-        by (some p) q = each p (data-at limit n file its p e q) (accepted limit file its e).not_long
+        by None q = omega arith
+        by (Some p) q = each p (data-at limit n file its p e q) (accepted limit file its e).not_long
 
 -- the number of octets, as an answer for the section
 octets-answer : (r : Result Placed) (f : Placed → Result OctetsAnswer)
@@ -192,6 +185,15 @@ place-returned : (o : Result OctetsAnswer) → place_returned (octets_place o) �
 place-returned (refusal k p) = refl
 place-returned (value o) = refl
 
+-- how many octets there are, as an answer
+abbrev pub place_outcome : Result Place → Outcome
+place_outcome (refusal k p) = refuses k p
+place_outcome (value a) = gives a.count
+
+place-outcome : (o : Result OctetsAnswer) → place_outcome (octets_place o) ≡ octets_outcome o
+place-outcome (refusal k p) = refl
+place-outcome (value o) = refl
+
 -- the place that the code answers, and what the call then answers
 module _ (limit : ℕ) (file : List ℕ) (n : ℕ) {x : Result Place} (is : x ≡ octets_place (octets_of (read limit file) n)) where
   pub place-fits : Fits (place_outcome x)
@@ -235,13 +237,13 @@ fields_fit limit file n = go (read limit file) refl
       where
         by : (o : Option Placed) → numbered n (sections 0 its) ≡ o
             → FieldsFit file (of_section (or_missing o) (λ p. value (fields_of p)))
-        by none q = omega arith
-        by (some p) q =
+        by None q = omega arith
+        by (Some p) q =
             let l = (accepted limit file its e).not_long in
             (narrow (data-at limit n file its p e q) l, omega (arith, l))
 
 -- the section that the code answers, and what the call then answers
-module _ (limit : ℕ) (file : List ℕ) (n : ℕ) (x : Numbered) (is : numbered_fields file x ≡ section_fields (read limit file) n)
+module _ (limit : ℕ) (file : List ℕ) (n : ℕ) (x : Answered D.Section Refusal) (is : numbered_fields file x ≡ section_fields (read limit file) n)
     (inside : NameInside file x) where
   fit : FieldsFit file (numbered_fields file x)
   fit = subst (FieldsFit file) (sym is) (fields_fit limit file n)
@@ -254,9 +256,9 @@ module _ (limit : ℕ) (file : List ℕ) (n : ℕ) (x : Numbered) (is : numbered
       × (r.name_start + r.name_length ≤ length file))
 
   -- there is none
-  module _ (t : Refusal) (same : x ≡ N.Refused t) where
+  module _ (t : Refusal) (same : x ≡ Err t) where
     pub refused-fits : t.place < 2 ^ 32
-    refused-fits = subst (λ (z : Numbered). FieldsFit file (numbered_fields file z)) same fit
+    refused-fits = subst (λ (z : Answered D.Section Refusal). FieldsFit file (numbered_fields file z)) same fit
 
     pub refused_says : {r : MelSectionAnswer} → r ≡ section_refused t.number t.place → SectionSays r
     unfolding SectionSays
@@ -265,13 +267,13 @@ module _ (limit : ℕ) (file : List ℕ) (n : ℕ) (x : Numbered) (is : numbered
         rw (e, ← q) (refl, (refl, omega arith))
 
   -- it is the code's
-  module _ (s : D.Section) (same : x ≡ N.As s) where
+  module _ (s : D.Section) (same : x ≡ Ok s) where
     in-file : (s.block.from ≤ s.block.to) × (s.block.to ≤ length file)
     in-file = subst (NameInside file) same inside
 
     pub narrow-section : NarrowSection s
     narrow-section =
-        let f = subst (λ (z : Numbered). FieldsFit file (numbered_fields file z)) same fit in
+        let f = subst (λ (z : Answered D.Section Refusal). FieldsFit file (numbered_fields file z)) same fit in
         record { numbers = f.0; name_low = in-file.0; name_high = omega (arith, f.1, in-file.1) }
 
     pub section-says : {r : MelSectionAnswer}
@@ -279,7 +281,7 @@ module _ (limit : ℕ) (file : List ℕ) (n : ℕ) (x : Numbered) (is : numbered
         → SectionSays r
     unfolding SectionSays
     section-says e =
-        let q : numbered_fields file (N.As s) ≡ section_fields (read limit file) n = sym (ap (numbered_fields file) same) ∙ is in
+        let q : numbered_fields file (Ok s) ≡ section_fields (read limit file) n = sym (ap (numbered_fields file) same) ∙ is in
         let m : s.block.from + (s.block.to - s.block.from) ≡ s.block.to = omega (arith, in-file.0) in
         let l : length (slice s.block.from s.block.to file) ≡ s.block.to - s.block.from
         = length-slice s.block.from s.block.to file in-file.1 in
@@ -287,28 +289,28 @@ module _ (limit : ℕ) (file : List ℕ) (n : ℕ) (x : Numbered) (is : numbered
 
 -- ---- what the calls answer, for the numbers of a type and of a compression
 
-module _ (e : Element) (ps : List ℤ) (out : List ℕ) where
+module _ (e : Option ElementType) (ps : List ℤ) (out : List ℕ) where
   unfoldable pub PackSays : MelAnswer → List ℕ → Type 0
   PackSays r out' = (r ≡ returned (pack_call e ps (length out))) × (out' ≡ written (pack_call e ps (length out)) (pack_byte_offset ps) out)
 
-  pub pack-unknown : (r : MelAnswer) → r ≡ returned (refuses 14 0) → E.Unknown ≡ e → PackSays r out
+  pub pack-unknown : (r : MelAnswer) → r ≡ returned (refuses 14 0) → None ≡ e → PackSays r out
   unfolding PackSays pack_call written
   pack-unknown r w q = (
-    w ∙ ap (λ (x : Element). returned (pack_call x ps (length out))) q,
-    ap (λ (x : Element). written
+    w ∙ ap (λ (x : Option ElementType). returned (pack_call x ps (length out))) q,
+    ap (λ (x : Option ElementType). written
         (pack_call x ps (length out)) (pack_byte_offset ps) out) q,
   )
 
-  pub pack-known : (t : ElementType) → E.Known t ≡ e → (r : MelAnswer) (o : Outcome) (out' : List ℕ) → r ≡ returned o → o
+  pub pack-known : (t : ElementType) → Some t ≡ e → (r : MelAnswer) (o : Outcome) (out' : List ℕ) → r ≡ returned o → o
       ≡ pack_outcome t ps (length out) → out' ≡ pack_output t ps out → PackSays r out'
   unfolding PackSays pack_call pack_output
   pack-known t q r o out' w a b = (
-    w ∙ ap returned a ∙ ap (λ (x : Element). returned (pack_call x ps (length out))) q,
+    w ∙ ap returned a ∙ ap (λ (x : Option ElementType). returned (pack_call x ps (length out))) q,
     b
-        ∙ ap (λ (x : Element). written (pack_call x ps (length out)) (pack_byte_offset ps) out) q,
+        ∙ ap (λ (x : Option ElementType). written (pack_call x ps (length out)) (pack_byte_offset ps) out) q,
   )
 
-module _ (e : Element) (c : Compressed) (n : ℕ) (os : List ℕ) (out : List ℤ) where
+module _ (e : Option ElementType) (c : Option Compression) (n : ℕ) (os : List ℕ) (out : List ℤ) where
   unfoldable pub UnpackSays : MelAnswer → List ℤ → Type 0
   UnpackSays r out' = (r ≡ returned (unpack_call e c n os (length out))) × (out' ≡ written (unpack_call e c n os (length out)) (unpacked_by e c n os) out)
 
@@ -316,21 +318,21 @@ module _ (e : Element) (c : Compressed) (n : ℕ) (os : List ℕ) (out : List �
   unfolding UnpackSays written
   unpack-refused r w q = (w ∙ ap returned q, ap (λ (o : Outcome). written o (unpacked_by e c n os) out) q)
 
-  pub unpack-no-type : (r : MelAnswer) → r ≡ returned (refuses 13 0) → E.Unknown ≡ e → UnpackSays r out
+  pub unpack-no-type : (r : MelAnswer) → r ≡ returned (refuses 13 0) → None ≡ e → UnpackSays r out
   unfolding unpack_call
-  unpack-no-type r w q = unpack-refused r w (ap (λ (x : Element). unpack_call x c n os (length out)) q)
+  unpack-no-type r w q = unpack-refused r w (ap (λ (x : Option ElementType). unpack_call x c n os (length out)) q)
 
-  pub unpack-no-compression : (r : MelAnswer) → r ≡ returned (refuses 13 0) → (t : ElementType) → E.Known t ≡ e → C.Unknown ≡ c → UnpackSays r out
+  pub unpack-no-compression : (r : MelAnswer) → r ≡ returned (refuses 13 0) → (t : ElementType) → Some t ≡ e → None ≡ c → UnpackSays r out
   unfolding unpack_call
-  unpack-no-compression r w t q u = unpack-refused r w (ap₂ (λ (x : Element) (y : Compressed). unpack_call x y n os (length out)) q u)
+  unpack-no-compression r w t q u = unpack-refused r w (ap₂ (λ (x : Option ElementType) (y : Option Compression). unpack_call x y n os (length out)) q u)
 
-  pub unpack-known : (t : ElementType) (k : Compression) → E.Known t ≡ e → C.Known k ≡ c → (r : MelAnswer) (o : Outcome)
+  pub unpack-known : (t : ElementType) (k : Compression) → Some t ≡ e → Some k ≡ c → (r : MelAnswer) (o : Outcome)
       (out' : List ℤ) → r ≡ returned o → o ≡ unpack_outcome k t n os (length out) → out' ≡ unpack_output k t n os out
       → UnpackSays r out'
   unfolding UnpackSays unpack_call unpacked_by unpack_output
   unpack-known t k q u r o out' w a b = (
-    w ∙ ap returned a ∙ ap₂ (λ (x : Element) (y : Compressed). returned (unpack_call x y n os (length out))) q u,
+    w ∙ ap returned a ∙ ap₂ (λ (x : Option ElementType) (y : Option Compression). returned (unpack_call x y n os (length out))) q u,
     b
-        ∙ ap₂ (λ (x : Element) (y : Compressed). written (unpack_call x y n os (length out)) (unpacked_by x y n os)
+        ∙ ap₂ (λ (x : Option ElementType) (y : Option Compression). written (unpack_call x y n os (length out)) (unpacked_by x y n os)
         out) q u,
   )

@@ -1,52 +1,36 @@
--- The C boundary: numbers for element types and compressions, and the structs that the calls return, whose fields are
--- those of include/mooringelm.h in their order.
+-- The C boundary: what a number that is no element type or compression gives, and the structs that the calls return,
+-- whose fields are those of include/mooringelm.h in their order.
 use Rattle.std.specs.Prelude.{cond, ℕ, ◌<◌, ◌≤◌, ◌^◌, eqb, List, [], length, ℤ}
-use Rattle.cbf_pixels.specs.declared.ElementType.TheVariants.{U8, S8, U16, S16, U32, S32}
-use Rattle.cbf_pixels.specs.declared.Compression.TheVariants.{Uncompressed, ByteOffset}
-use Rattle.cbf_capi.specs.declared.Element.{Element}
-use Rattle.cbf_capi.specs.declared.Compressed.{Compressed}
+use Rattle.std.specs.Prelude.{Option, None, Some}
+use Rattle.cbf_pixels.specs.declared.ElementType.{ElementType}
+use Rattle.cbf_pixels.specs.declared.Compression.{Compression}
 use Rattle.cbf_capi.specs.declared.MelAnswer.{MelAnswer}
 use Rattle.cbf_capi.specs.declared.MelOctetsAnswer.{MelOctetsAnswer}
 use Rattle.cbf_capi.specs.declared.MelSectionAnswer.{MelSectionAnswer}
 use Rattle.cbf_format.specs.declared.Description.{Description}
 use Rattle.cbf_format.specs.declared.Section.{Section}
-use Rattle.cbf_format.specs.Catalogue.{compression_number, type_number, encoding_number}
+use Rattle.cbf_pixels.specs.Numbers.{compression_number, type_number}
+use Rattle.cbf_format.specs.Catalogue.{encoding_number}
 use Rattle.cbf_format.specs.SectionCalls.{Result, refusal, value, OctetsAnswer, Fields}
 use Rattle.cbf_answers.specs.Answers.{Outcome, gives, refuses}
 use Rattle.cbf_pixels.specs.PixelCalls.{pack_outcome, unpack_outcome, pixels_of, unpack_pixels}
-use Rattle.cbf_capi.specs.declared.Element.TheVariants as E
-use Rattle.cbf_capi.specs.declared.Compressed.TheVariants as C
-
--- "type (1 u8, 2 s8, 3 u16, 4 s16, 5 u32, 6 s32)"
-unfoldable pub element : ℕ → Element
-element n =
-    cond (eqb n 1) (E.Known U8)
-    (cond (eqb n 2) (E.Known S8)
-    (cond (eqb n 3) (E.Known U16)
-    (cond (eqb n 4) (E.Known S16)
-    (cond (eqb n 5) (E.Known U32)
-    (cond (eqb n 6) (E.Known S32) E.Unknown)))))
-
--- "compression (0 none, 1 byte offset)"
-unfoldable pub compressed : ℕ → Compressed
-compressed n = cond (eqb n 0) (C.Known Uncompressed) (cond (eqb n 1) (C.Known ByteOffset) C.Unknown)
 
 -- "any other type is 14 at 0 in packing"
-unfoldable pub pack_call : Element → List ℤ → ℕ → Outcome
-pack_call E.Unknown ps room = refuses 14 0
-pack_call (E.Known t) ps room = pack_outcome t ps room
+unfoldable pub pack_call : Option ElementType → List ℤ → ℕ → Outcome
+pack_call None ps room = refuses 14 0
+pack_call (Some t) ps room = pack_outcome t ps room
 
 -- "any other type or compression 13 at 0 in unpacking"
-unfoldable pub unpack_call : Element → Compressed → ℕ → List ℕ → ℕ → Outcome
-unpack_call E.Unknown c n os room = refuses 13 0
-unpack_call (E.Known t) C.Unknown n os room = refuses 13 0
-unpack_call (E.Known t) (C.Known c) n os room = unpack_outcome c t n os room
+unfoldable pub unpack_call : Option ElementType → Option Compression → ℕ → List ℕ → ℕ → Outcome
+unpack_call None c n os room = refuses 13 0
+unpack_call (Some t) None n os room = refuses 13 0
+unpack_call (Some t) (Some c) n os room = unpack_outcome c t n os room
 
 -- the pixels that are written where the call is not refused
-unfoldable pub unpacked_by : Element → Compressed → ℕ → List ℕ → List ℤ
-unpacked_by E.Unknown c n os = []
-unpacked_by (E.Known t) C.Unknown n os = []
-unpacked_by (E.Known t) (C.Known c) n os = pixels_of (unpack_pixels c t n os)
+unfoldable pub unpacked_by : Option ElementType → Option Compression → ℕ → List ℕ → List ℤ
+unpacked_by None c n os = []
+unpacked_by (Some t) None n os = []
+unpacked_by (Some t) (Some c) n os = pixels_of (unpack_pixels c t n os)
 
 -- ---- what is returned
 

@@ -6,6 +6,7 @@
 ghost use Rattle.std.specs.Prelude.{◌≡◌, ◌+◌, ◌-◌, ◌<◌, ◌≤◌, ◌^◌, List, length};
 ghost use Rattle.std.proofs.Math.Seq.{slice};
 ghost use Rattle.cbf_pixels.specs.Pixels.{pack_byte_offset};
+ghost use Rattle.cbf_pixels.specs.Numbers.{element, compressed};
 ghost use Rattle.cbf_answers.specs.Answers.{refuses, outcome, written};
 ghost use Rattle.cbf_answers.specs.Limits.{line_limit};
 ghost use Rattle.cbf_format.specs.Files.{read};
@@ -13,13 +14,11 @@ ghost use Rattle.cbf_format.specs.ListCalls.{list_outcome, list_output};
 ghost use Rattle.cbf_format.specs.CatalogueCalls.{catalogue_outcome, catalogue_output};
 ghost use Rattle.cbf_format.specs.SectionCalls.{read_outcome, section_fields, octets_of, frame_outcome, frame_output};
 ghost use Rattle.cbf_format.specs.ReplaceCalls.{replace_outcome, replace_output};
-ghost use Rattle.cbf_capi.specs.Boundary.{element, compressed, pack_call, unpack_call, unpacked_by, returned};
+ghost use Rattle.cbf_capi.specs.Boundary.{pack_call, unpack_call, unpacked_by, returned};
 ghost use Rattle.cbf_capi.specs.Boundary.{returned_octets, returned_section, block_name, value_of, NarrowSection};
 ghost use Rattle.cbf_capi.specs.Boundary.{section_returned, section_refused};
 
-use cbf::{Numbered, OctetsPlace, Section};
-use cbf_answers::{Answer, LINE_LIMIT};
-use cbf_pixels::{Compression, ElementType};
+use cbf::{Compression, ElementType, LINE_LIMIT, Reason, Refusal, Section};
 
 // mel_answer: what every call returns but the two that follow. `refusal` is 0 for none; then `place` and `item` are 0.
 #[repr(C)]
@@ -65,73 +64,31 @@ pub struct MelSectionAnswer {
     pub encoding: u8,
 }
 
-#[derive(Clone, Copy)]
-pub enum Element {
-    Unknown,
-    Known(ElementType),
-}
-
-// The element type of a number, as in the catalogue.
-fn element_of(number: u8) -> Element
-    ensures { result ≡ element number }
+// A refusal, where nothing else is returned.
+fn refused(refusal: Refusal) -> MelAnswer
+    requires { refusal.place < 2 ^ 32 }
+    ensures { result ≡ returned (refuses refusal.number refusal.place) }
 {
-    match number {
-        1 => Element::Known(ElementType::U8),
-        2 => Element::Known(ElementType::S8),
-        3 => Element::Known(ElementType::U16),
-        4 => Element::Known(ElementType::S16),
-        5 => Element::Known(ElementType::U32),
-        6 => Element::Known(ElementType::S32),
-        _ => Element::Unknown,
+    MelAnswer {
+        refusal: refusal.number,
+        place: refusal.place as u32,
+        item: 0,
+        length: 0,
     }
 }
 
-#[derive(Clone, Copy)]
-pub enum Compressed {
-    Unknown,
-    Known(Compression),
-}
-
-// The compression of a number, as in the catalogue.
-fn compression_of(number: u8) -> Compressed
-    ensures { result ≡ compressed number }
-{
-    match number {
-        0 => Compressed::Known(Compression::Uncompressed),
-        1 => Compressed::Known(Compression::ByteOffset),
-        _ => Compressed::Unknown,
-    }
-}
-
-fn answer_of(answer: Answer) -> MelAnswer
+fn answer_of(answer: Result<usize, Refusal>) -> MelAnswer
     requires { value_of (outcome answer) < 2 ^ 32 }
     ensures { result ≡ returned (outcome answer) }
 {
     match answer {
-        Answer::Length(n) => MelAnswer {
+        Ok(n) => MelAnswer {
             refusal: 0,
             place: 0,
             item: 0,
             length: n as u32,
         },
-        Answer::Refused(refusal) => MelAnswer {
-            refusal: refusal.number,
-            place: refusal.place as u32,
-            item: 0,
-            length: 0,
-        },
-    }
-}
-
-// A refusal at 0.
-fn refused(number: u32) -> MelAnswer
-    ensures { result ≡ returned (refuses number 0) }
-{
-    MelAnswer {
-        refusal: number,
-        place: 0,
-        item: 0,
-        length: 0,
+        Err(refusal) => refused(refusal),
     }
 }
 
@@ -144,12 +101,13 @@ pub extern "C" fn mel_count(file: &[u8]) -> MelAnswer
 }
 
 // Where there is no section to tell of.
-fn no_section(number: u32, place: u32) -> MelSectionAnswer
-    ensures { result ≡ section_refused number place }
+fn no_section(refusal: Refusal) -> MelSectionAnswer
+    requires { refusal.place < 2 ^ 32 }
+    ensures { result ≡ section_refused refusal.number refusal.place }
 {
     MelSectionAnswer {
-        refusal: number,
-        place: place,
+        refusal: refusal.number,
+        place: refusal.place as u32,
         item: 0,
         boundary: 0,
         span_end: 0,
@@ -176,9 +134,6 @@ fn section_of(section: Section) -> MelSectionAnswer
 {
     let d = section.description;
     let block = section.block;
-    let compression = d.compression;
-    let kind = d.kind;
-    let encoding = d.encoding;
     MelSectionAnswer {
         refusal: 0,
         place: 0,
@@ -194,9 +149,9 @@ fn section_of(section: Section) -> MelSectionAnswer
         third: d.third as u32,
         name_start: block.from as u32,
         name_length: (block.to - block.from) as u32,
-        compression: cbf_catalogue::compression_number(compression),
-        element_type: cbf_catalogue::type_number(kind),
-        encoding: cbf_catalogue::encoding_number(encoding),
+        compression: u8::from(d.compression),
+        element_type: u8::from(d.kind),
+        encoding: u8::from(d.encoding),
     }
 }
 
@@ -210,10 +165,9 @@ pub extern "C" fn mel_section(file: &[u8], section: usize) -> MelSectionAnswer
         ≡ block_name (section_fields (read line_limit file.now) section) }
     ensures inside { result.name_start + result.name_length ≤ length file.now }
 {
-    let numbered = cbf::section(file, LINE_LIMIT, section);
-    match numbered {
-        Numbered::Refused(r) => no_section(r.number, r.place as u32),
-        Numbered::As(s) => section_of(s),
+    match cbf::section(file, LINE_LIMIT, section) {
+        Ok(found) => section_of(found),
+        Err(refusal) => no_section(refusal),
     }
 }
 
@@ -222,21 +176,20 @@ pub extern "C" fn mel_section(file: &[u8], section: usize) -> MelSectionAnswer
 pub extern "C" fn mel_octets(file: &[u8], section: usize) -> MelOctetsAnswer
     ensures answer { result ≡ returned_octets (octets_of (read line_limit file.now) section) }
 {
-    let place = cbf::octets_at(file, LINE_LIMIT, section);
-    match place {
-        OctetsPlace::Refused(r) => MelOctetsAnswer {
-            refusal: r.number,
-            place: r.place as u32,
-            item: 0,
-            length: 0,
-            start: 0,
-        },
-        OctetsPlace::At(first, size) => MelOctetsAnswer {
+    match cbf::octets_at(file, LINE_LIMIT, section) {
+        Ok(octets) => MelOctetsAnswer {
             refusal: 0,
             place: 0,
             item: 0,
-            length: size as u32,
-            start: first as u64,
+            length: octets.size as u32,
+            start: octets.first as u64,
+        },
+        Err(refusal) => MelOctetsAnswer {
+            refusal: refusal.number,
+            place: refusal.place as u32,
+            item: 0,
+            length: 0,
+            start: 0,
         },
     }
 }
@@ -297,10 +250,9 @@ pub extern "C" fn mel_pack(element_type: u8, pixels: &[i64], out: &mut [u8]) -> 
     ensures output { out.new ≡ written (pack_call (element element_type) pixels.now
         (length out.old)) (pack_byte_offset pixels.now) out.old }
 {
-    let known = element_of(element_type);
-    match known {
-        Element::Unknown => refused(14),
-        Element::Known(kind) => answer_of(cbf_pack::pack(kind, pixels, out)),
+    match ElementType::try_from(element_type) {
+        Err(_) => refused(Reason::BadPixels.at(0)),
+        Ok(kind) => answer_of(cbf_pack::pack(kind, pixels, out)),
     }
 }
 
@@ -320,13 +272,12 @@ pub extern "C" fn mel_unpack_octets(
         (unpacked_by (element element_type) (compressed compression) count octets.now)
         pixels.old }
 {
-    let known = element_of(element_type);
-    let compressed_by = compression_of(compression);
-    match known {
-        Element::Unknown => refused(13),
-        Element::Known(kind) => match compressed_by {
-            Compressed::Unknown => refused(13),
-            Compressed::Known(by) => answer_of(cbf_unpack::unpack(by, kind, octets, count, pixels)),
-        },
+    match (
+        ElementType::try_from(element_type),
+        Compression::try_from(compression),
+    ) {
+        (Err(_), _) => refused(Reason::BadOctets.at(0)),
+        (Ok(_), Err(_)) => refused(Reason::BadOctets.at(0)),
+        (Ok(kind), Ok(by)) => answer_of(cbf_unpack::unpack(by, kind, octets, count, pixels)),
     }
 }

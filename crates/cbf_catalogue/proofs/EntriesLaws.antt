@@ -1,13 +1,14 @@
 -- The entries of the sections that a walk over a file came past: their length, the first name that is too long, and
 -- where they are written. Assumes nothing.
 use mathlib.Core.Path.{◌≡◌, refl, sym, ap, ◌∙◌, subst}
-use mathlib.Core.Option.{Option, none, some}
+use Rattle.std.specs.Prelude.{Option, None, Some}
 use mathlib.Core.Bool.{Bool, true, false, cond}
 use mathlib.Core.List.{List, [], ◌∷◌, ◌++◌, append_assoc, append-nil}
 use Prim.Native.Nat.{ℕ, suc, ◌+◌, ◌*◌, ◌-◌, ◌≤◌, ◌<◌}
 use native.Mathlib.Omega.{arith}
-use borrow.Author.Tests.{leb-true, le-leb, le-ltb, ltb-false}
-use lib.Dec.{leb, ltb}
+use Rattle.std.specs.Prelude.{Result, Ok, Err}
+use borrow.Author.Tests.{leb-true, le-leb}
+use lib.Dec.{leb}
 use lib.ListN.{length, length-append}
 use lib.Seq.{sets, length-slice}
 use Rattle.cbf_walk.specs.Reading.{Item, Reading, good, flat}
@@ -16,24 +17,18 @@ use Rattle.cbf_answers.specs.declared.Refusal.{Refusal}
 use Rattle.cbf_answers.specs.Limits.{file_limit}
 use Rattle.cbf_format.specs.Listing.{Placed, sections}
 use Rattle.cbf_format.specs.Catalogue.{label_width, entry_of, entries, long_name}
-use Rattle.cbf_format.proofs.PlaceLaws.{long-name-from}
 use Rattle.cbf_reader.specs.Walk.{whole, start_cursor, ReadTo, SectionOf, NextSays}
 use Rattle.cbf_reader.specs.declared.step.Cursor.{Cursor}
 use Rattle.cbf_format.specs.declared.Section.{Section}
 use Rattle.cbf_reader.specs.declared.walk.NextSection.{NextSection}
-use Rattle.cbf_reader.proofs.WalkLaws.{come-length}
-use Rattle.cbf_reader.proofs.LoopLaws.{LoopAt, loop-start, LoopMore, AllRead, loop-count, loop-front, loop-past}
+use Rattle.cbf_reader.proofs.LoopLaws.{LoopAt, loop-start, LoopMore, AllRead, loop-count, loop-front}
 use Rattle.cbf_reader.proofs.LoopLaws.{loop-refused, loop-end, loop-more, refused-off}
 use Rattle.cbf_catalogue.specs.Entry.{entry_for}
-use Rattle.cbf_catalogue.specs.Entries.{no_place, with_name, finished_by, found_name, entries_of, entries_in}
-use Rattle.cbf_catalogue.specs.Entries.{EntriesFit}
-use Rattle.cbf_catalogue.specs.declared.entries.Counted.{Counted}
+use Rattle.cbf_catalogue.specs.Entries.{with_name, finished_by, entries_of, entries_in, EntriesFit}
 use Rattle.cbf_write.proofs.PutLaws.{put_if, put-if-length, put-if-none, put-if-off, put-if-more}
 use Rattle.cbf_catalogue.proofs.EntryLaws.{length-entry}
 use Rattle.cbf_format.specs.Sections as S
 use Rattle.cbf_format.specs.Files as F
-use Rattle.cbf_reader.specs.declared.walk.NextSection.TheVariants as W
-use Rattle.cbf_catalogue.specs.declared.entries.Counted.TheVariants as C
 
 -- ---- entries
 
@@ -50,15 +45,15 @@ abbrev Labelled : Placed → Type 0
 Labelled p = length p.section.block ≤ label_width
 
 -- none is too long: not the first one, and none after it
-name-first : (p : Placed) (ps : List Placed) → long_name (p ∷ ps) ≡ none → Labelled p × (long_name ps ≡ none)
+name-first : (p : Placed) (ps : List Placed) → long_name (p ∷ ps) ≡ None → Labelled p × (long_name ps ≡ None)
 unfolding long_name
 name-first p ps = go (leb (length p.section.block) label_width) refl
   where
-    go : (t : Bool) → leb (length p.section.block) label_width ≡ t → cond t (long_name ps) (some p.boundary) ≡ none → Labelled p × (long_name ps ≡ none)
+    go : (t : Bool) → leb (length p.section.block) label_width ≡ t → cond t (long_name ps) (Some p.boundary) ≡ None → Labelled p × (long_name ps ≡ None)
     go true q e = (leb-true (length p.section.block) label_width q, e)
     go false q e = let z : ◌≡◌ {A = ℕ} 0 1 = cc in absurd (omega arith)
 
-names-both : (a b : List Placed) → long_name (a ++ b) ≡ none → (long_name a ≡ none) × (long_name b ≡ none)
+names-both : (a b : List Placed) → long_name (a ++ b) ≡ None → (long_name a ≡ None) × (long_name b ≡ None)
 unfolding long_name
 names-both [] b e = (refl, e)
 names-both (p ∷ a) b e =
@@ -66,7 +61,7 @@ names-both (p ∷ a) b e =
     let g = names-both a b f.1 in
     (rw (le-leb (length p.section.block) label_width f.0) g.0, g.1)
 
-pub length-entries : (ps : List Placed) → long_name ps ≡ none → length (entries ps) ≡ 64 * length ps
+pub length-entries : (ps : List Placed) → long_name ps ≡ None → length (entries ps) ≡ 64 * length ps
 unfolding entries
 length-entries [] e = refl
 length-entries (p ∷ ps) e =
@@ -75,35 +70,16 @@ length-entries (p ∷ ps) e =
     let l : length (entry_of p) ≡ 64 = rw length-entry in
     omega (arith, length-append (entry_of p) (entries ps), l, length-entries ps f.1)
 
--- a place that is found stays, whatever comes after it
-found-stays : (t : Bool) (a b : ℕ) → a ≤ b → a ≡ cond t a (cond (ltb a b) a b)
-found-stays true a b h = refl
-found-stays false a b h = go (ltb a b) refl
-  where
-    go : (u : Bool) → ltb a b ≡ u → a ≡ cond u a b
-    go true q = refl
-    go false q = omega (arith, ltb-false a b q)
-
--- the first long name with the section p more, and without it, as the code has them
-abbrev FoundWith : Placed → Option ℕ → Option ℕ → Type 0
-FoundWith p o more = found_name more ≡ with_name (found_name o) (length p.section.block) p.boundary
-
--- for a section in a file, after the others
-found-last : (a : List Placed) (p : Placed) → p.boundary ≤ no_place → ((q : ℕ) → long_name a ≡ some q → q ≤ p.boundary)
-    → FoundWith p (long_name a) (long_name (a ++ (p ∷ [])))
+-- the first long name with the section p more
+found-last : (a : List Placed) (p : Placed) → long_name (a ++ (p ∷ [])) ≡ with_name (long_name a) (length p.section.block) p.boundary
 unfolding long_name
-found-last [] p h after = rw (le-ltb no_place p.boundary h) (go (leb (length p.section.block) label_width))
+found-last [] p = refl
+found-last (q ∷ a) p = go (leb (length q.section.block) label_width) (found-last a p)
   where
-    go : (t : Bool) → found_name (cond t none (some p.boundary)) ≡ cond t no_place p.boundary
-    go true = refl
-    go false = refl
-found-last (q ∷ a) p h after = go (leb (length q.section.block) label_width) after (found-last a p h)
-  where
-    go : (t : Bool) → ((x : ℕ) → cond t (long_name a) (some q.boundary) ≡ some x → x ≤ p.boundary)
-        → (((x : ℕ) → long_name a ≡ some x → x ≤ p.boundary) → FoundWith p (long_name a) (long_name (a ++ (p ∷ []))))
-        → FoundWith p (cond t (long_name a) (some q.boundary)) (cond t (long_name (a ++ (p ∷ []))) (some q.boundary))
-    go true after ih = ih after
-    go false after ih = found-stays (leb (length p.section.block) label_width) q.boundary p.boundary (after q.boundary refl)
+    go : (t : Bool) → long_name (a ++ (p ∷ [])) ≡ with_name (long_name a) (length p.section.block) p.boundary
+        → cond t (long_name (a ++ (p ∷ []))) (Some q.boundary) ≡ with_name (cond t (long_name a) (Some q.boundary)) (length p.section.block) p.boundary
+    go true ih = ih
+    go false ih = refl
 
 -- the entry, the name's length and the boundary line of a section of the code
 module _ {file : List ℕ} {p : Placed} {s : Section} (is : SectionOf file p s) where
@@ -124,79 +100,69 @@ entries-in true its old = refl
 entries-in false its old = refl
 
 -- what is answered for a reading of the file, and what is then in the output
-abbrev Answered : Reading (Item F.State S.Section) → Bool → List ℕ → Counted → List ℕ → Type 0
+abbrev Answered : Reading (Item F.State S.Section) → Bool → List ℕ → Result ℕ Refusal → List ℕ → Type 0
 Answered r writing old m out = (m ≡ entries_of r) × (out ≡ entries_in writing r old)
 
 -- ---- the loop
 
 -- the first long name among the sections before the cursor is known, and their entries are in the output where they
 -- are written
-pub record Entered (limit : ℕ) (file old : List ℕ) (writing : Bool) (c : Cursor) (found : ℕ) (out : List ℕ) : Type 0 where
+pub record Entered (limit : ℕ) (file old : List ℕ) (writing : Bool) (c : Cursor) (found : Option ℕ) (out : List ℕ) : Type 0 where
   pub here : LoopAt limit file c
-  pub found_is : found ≡ found_name (long_name (sections 0 here.done))
+  pub found_is : found ≡ long_name (sections 0 here.done)
   pub holds : out ≡ put_if writing old 8 (entries (sections 0 here.done))
 
 pub entered-start : (limit : ℕ) (file old : List ℕ) (writing : Bool) (c : Cursor) → c ≡ start_cursor → length file ≤ file_limit
-    → Entered limit file old writing c no_place old
+    → Entered limit file old writing c None old
 unfolding sections entries long_name
 entered-start limit file old writing c e h = record { here = loop-start limit file c e h; found_is = refl; holds = put-if-none writing old 8 }
 
-module _ {limit : ℕ} {file old : List ℕ} {writing : Bool} {c : Cursor} {found : ℕ} {out : List ℕ} (k : Entered limit file old writing c found out) where
+module _ {limit : ℕ} {file old : List ℕ} {writing : Bool} {c : Cursor} {found : Option ℕ} {out : List ℕ} (k : Entered limit file old writing c found out) where
   abbrev before : List Placed
   before = sections 0 k.here.done
 
   pub entered-kept : length out ≡ length old
   entered-kept = ap length k.holds ∙ put-if-length writing old 8 (entries before)
 
-  ended : {r : Counted} → r ≡ finished_by found c.count → AllRead k.here → Answered (whole limit file) writing old r out
+  ended : {r : Result ℕ Refusal} → r ≡ finished_by found c.count → AllRead k.here → Answered (whole limit file) writing old r out
   ended e all =
       rw all.1 (
-        e ∙ ap (λ (f : ℕ). finished_by f c.count) k.found_is ∙ ap (finished_by (found_name (long_name before))) (loop-count k.here)
-            ∙ ap (λ (ps : List Placed). finished_by (found_name (long_name ps)) (length ps)) (sym all.2),
+        e ∙ ap (λ (f : Option ℕ). finished_by f c.count) k.found_is ∙ ap (finished_by (long_name before)) (loop-count k.here)
+            ∙ ap (λ (ps : List Placed). finished_by (long_name ps) (length ps)) (sym all.2),
         k.holds ∙ ap (λ (ps : List Placed). put_if writing old 8 (entries ps)) (sym all.2) ∙ entries-in writing all.0 old,
       )
 
-  -- the file ends at the cursor
-  pub entered-past : {r : Counted} → r ≡ finished_by found c.count → 0 < length file → length file ≤ c.at → Answered (whole limit file) writing old r out
-  entered-past e some_byte past = ended e (loop-past k.here some_byte past)
-
   -- what reading on from the cursor gave
-  module _ {r : NextSection} (says : (done : F.Tree) → ReadTo limit file done c → NextSays limit file done r) where
+  module _ {r : Result (Option NextSection) Refusal} (says : (done : F.Tree) → ReadTo limit file done c → NextSays limit file done r) where
     -- nothing was written of a refused file
-    pub entered-refused : {q : Refusal} → (writing ≡ true → EntriesFit (whole limit file) old) → r ≡ W.Refused q
-        → Answered (whole limit file) writing old (C.Refused q) out
+    pub entered-refused : {q : Refusal} → (writing ≡ true → EntriesFit (whole limit file) old) → r ≡ Err q
+        → Answered (whole limit file) writing old (Err q) out
     entered-refused fits is =
         let e = loop-refused k.here says is in
         let off = refused-off writing (λ on. ((fits on).0, (fits on).1)) e in
         rw e (refl, k.holds ∙ put-if-off writing old 8 (entries before) [] off ∙ sym (put-if-none writing old 8))
 
-    pub entered-end : {a : Counted} → a ≡ finished_by found c.count → r ≡ W.End → Answered (whole limit file) writing old a out
+    pub entered-end : {a : Result ℕ Refusal} → a ≡ finished_by found c.count → r ≡ Ok None → Answered (whole limit file) writing old a out
     entered-end e is = ended e (loop-end k.here says is)
 
     -- a section more
-    module _ {s : Section} {d : Cursor} (is : r ≡ W.Found s d) where
+    module _ {n : NextSection} (is : r ≡ Ok (Some n)) where
+      abbrev s : Section
+      s = n.section
+
+      abbrev d : Cursor
+      d = n.after
+
       abbrev more : LoopMore k.here s d
       more = loop-more k.here says is
 
       pub entered-block : s.block.from ≤ s.block.to
       entered-block = more.is_section.block_low
 
-      -- its boundary line is in the file, and after those of the sections before it
-      placed-in : (length (flat k.here.done) ≤ more.placed.boundary) × (more.placed.boundary ≤ file_limit)
-      placed-in =
-          let done = k.here.done in
-          let f = subst (NextSays limit file done) is (says done k.here.come) in
-          let e = sym (boundary-is more.is_section) ∙ boundary-is f.5 in
-          let n = ap length (flat_append done f.0) ∙ length-append (flat done) (flat f.0) in
-          let m = ap length (flat_append done (f.0 ++ (f.1 ∷ []))) ∙ length-append (flat done) (flat (f.0 ++ (f.1 ∷ []))) in
-          let l = ap length (flat_append f.0 (f.1 ∷ [])) ∙ length-append (flat f.0) (flat (f.1 ∷ [])) in
-          let r = f.8.ready in
-          (omega (arith, e, n), omega (arith, e, n, m, l, come-length limit file f.8, r.at_in, r.short))
-
       -- where its entry is written, no name so far is too long, nor with its own, and the file has so many sections
       fitting : (f : EntriesFit (whole limit file) old)
-          → (long_name before ≡ none)
-          × (long_name (before ++ (more.placed ∷ [])) ≡ none)
+          → (long_name before ≡ None)
+          × (long_name (before ++ (more.placed ∷ [])) ≡ None)
           × Labelled more.placed
           × (suc (length before) ≤ length (sections 0 f.0))
       fitting f =
@@ -238,23 +204,21 @@ module _ {limit : ℕ} {file old : List ℕ} {writing : Bool} {c : Cursor} {foun
           ap (λ (t : List ℕ). entries before ++ t) (entry-is more.is_section) ∙ sym (entries-last before p) ∙ ap entries (sym more.sections_more) in
           record {
             here = more.here;
-            found_is = k.found_is ∙ ap found_name (g.0 ∙ sym g.1) ∙ ap (λ (ps : List Placed). found_name (long_name ps)) (sym more.sections_more);
+            found_is = k.found_is ∙ g.0 ∙ sym g.1 ∙ ap long_name (sym more.sections_more);
             holds = put-if-more writing old 8 (entries before) (entry_for file s) on k.holds at h ∙ ap (put_if writing old 8) with-entry;
           }
 
       -- the section was only counted
-      pub entered-counted : {f : ℕ} → writing ≡ false → f ≡ with_name found (s.block.to - s.block.from) s.from
+      pub entered-counted : {f : Option ℕ} → writing ≡ false → f ≡ with_name found (s.block.to - s.block.from) s.from
           → Entered limit file old writing d f out
       entered-counted off e =
           let p = more.placed in
           let i = more.is_section in
-          let l = found_name (long_name before) in
-          let after : (q : ℕ) → long_name before ≡ some q → q ≤ p.boundary = λ q e. omega (arith, long-name-from 0 k.here.done q e, placed-in.0) in
+          let l = long_name before in
           record {
             here = more.here;
-            found_is = e ∙ ap (λ (f : ℕ). with_name f (s.block.to - s.block.from) s.from) k.found_is
+            found_is = e ∙ ap (λ (f : Option ℕ). with_name f (s.block.to - s.block.from) s.from) k.found_is
                 ∙ ap (λ (n : ℕ). with_name l n s.from) (name-length i) ∙ ap (with_name l (length p.section.block)) (boundary-is i)
-                ∙ sym (found-last before p (omega (arith, placed-in.1)) after)
-                ∙ ap (λ (ps : List Placed). found_name (long_name ps)) (sym more.sections_more);
+                ∙ sym (found-last before p) ∙ ap long_name (sym more.sections_more);
             holds = k.holds ∙ put-if-off writing old 8 (entries before) (entries (sections 0 more.here.done)) off;
           }

@@ -5,14 +5,15 @@ use mathlib.Core.List.{List, [], ◌∷◌, ◌++◌}
 use Prim.Native.Nat.{ℕ, zero, suc, ◌+◌, ◌*◌, ◌-◌, ◌/◌, ◌%◌, ◌≤◌, ◌<◌}
 use native.Mathlib.Nat.{add-zero, zero-add, suc-add, sub-zero}
 use native.Mathlib.Omega.{arith}
-use lib.ListN.{length, length-append, set}
+use lib.ListN.{length, length-append, set, replicate}
 use lib.Seq.{sets, length-sets}
 use Rattle.cbf_pixels.specs.Octets.{number, octets, no_octet, octet}
 use Rattle.cbf_pixels.specs.declared.ElementType.{ElementType}
 use Rattle.cbf_pixels.specs.declared.Compression.{Compression}
 use Rattle.cbf_pixels.proofs.Numbers.{length-octets, octets-number}
 use Rattle.cbf_format.specs.declared.Encoding.{Encoding}
-use Rattle.cbf_format.specs.Catalogue.{label_width, compression_number, type_number, encoding_number, zeros, label, entry}
+use Rattle.cbf_pixels.specs.Numbers.{compression_number, type_number}
+use Rattle.cbf_format.specs.Catalogue.{label_width, encoding_number, zeros, label, entry}
 use Rattle.cbf_catalogue.specs.Entry.{four_numbers}
 use Rattle.cbf_answers.proofs.Stores.{sets-append}
 use Rattle.cbf_write.proofs.PutLaws.{sets_over}
@@ -46,6 +47,14 @@ pub zeros-octets : (k : ℕ) → zeros k ≡ octets k 0
 unfolding zeros octets
 zeros-octets zero = refl
 zeros-octets (suc k) = ap (λ (l : List ℕ). 0 ∷ l) (zeros-octets k)
+
+zeros-replicate : (n : ℕ) → replicate n 0 ≡ zeros n
+unfolding zeros
+zeros-replicate zero = refl
+zeros-replicate (suc n) = ap (λ (l : List ℕ). 0 ∷ l) (zeros-replicate n)
+
+pub zeros-same : {m n : ℕ} → m ≡ n → replicate m 0 ≡ zeros n
+zeros-same {m} {n} e = ap (λ (k : ℕ). replicate k 0) e ∙ zeros-replicate n
 
 -- ---- lengths
 

@@ -3,43 +3,12 @@ ghost use Rattle.std.specs.Prelude.{◌≡◌, [], ◌∷◌, ◌+◌, ◌-◌, 
 ghost use Rattle.std.proofs.lemmas.List.Edits.{sets};
 ghost use Rattle.std.proofs.Math.Seq.{slice};
 ghost use Rattle.cbf_pixels.specs.Octets.{octets};
-ghost use Rattle.cbf_format.specs.Catalogue.{label_width, compression_number, type_number, encoding_number, label};
+ghost use Rattle.cbf_pixels.specs.Numbers.{compression_number, type_number};
+ghost use Rattle.cbf_format.specs.Catalogue.{label_width, encoding_number, label};
 ghost use Rattle.cbf_catalogue.specs.Entry.{entry_for, four_numbers};
 
 use crate::little;
-use cbf_format::{Encoding, LABEL_WIDTH, Section};
-use cbf_pixels::{Compression, ElementType};
-
-pub fn compression_number(compression: Compression) -> u8
-    ensures { result ≡ compression_number compression }
-{
-    match compression {
-        Compression::Uncompressed => 0,
-        Compression::ByteOffset => 1,
-    }
-}
-
-pub fn type_number(kind: ElementType) -> u8
-    ensures { result ≡ type_number kind }
-{
-    match kind {
-        ElementType::U8 => 1,
-        ElementType::S8 => 2,
-        ElementType::U16 => 3,
-        ElementType::S16 => 4,
-        ElementType::U32 => 5,
-        ElementType::S32 => 6,
-    }
-}
-
-pub fn encoding_number(encoding: Encoding) -> u8
-    ensures { result ≡ encoding_number encoding }
-{
-    match encoding {
-        Encoding::Binary => 0,
-        Encoding::Base64 => 1,
-    }
-}
+use cbf_format::{LABEL_WIDTH, Section};
 
 // Writes four 32-bit numbers.
 fn put_four(out: &mut [u8], at: usize, a: u64, b: u64, c: u64, d: u64) -> usize
@@ -54,14 +23,13 @@ fn put_four(out: &mut [u8], at: usize, a: u64, b: u64, c: u64, d: u64) -> usize
 }
 
 // Writes a name that is no longer than the label, over zeros.
-fn put_label(file: &[u8], from: usize, to: usize, out: &mut [u8], at: usize) -> usize
-    requires { (from ≤ to) × (to ≤ length file.now) × (to - from ≤ label_width)
-        × (at + label_width ≤ length out.old) }
+fn put_label(name: &[u8], out: &mut [u8], at: usize) -> usize
+    requires { (length name.now ≤ label_width) × (at + label_width ≤ length out.old) }
     ensures value { result ≡ at + label_width }
-    ensures out_after { out.new ≡ sets out.old at (label (slice from to file.now)) }
+    ensures out_after { out.new ≡ sets out.old at (label name.now) }
 {
     let end = little::put_zeros(out, at, LABEL_WIDTH);
-    cbf_write::put_short(out, at, &file[from..to]);
+    cbf_write::put_text(out, at, name);
     end
 }
 
@@ -71,12 +39,9 @@ fn kinds(section: Section) -> u64
         section.description.kind ∷ encoding_number section.description.encoding ∷ 0 ∷ [] }
 {
     let d = section.description;
-    let compression = d.compression;
-    let kind = d.kind;
-    let encoding = d.encoding;
-    let low = compression_number(compression) as u64;
-    let middle = type_number(kind) as u64;
-    let high = encoding_number(encoding) as u64;
+    let low = u64::from(u8::from(d.compression));
+    let middle = u64::from(u8::from(d.kind));
+    let high = u64::from(u8::from(d.encoding));
     low + 256 * middle + 65536 * high
 }
 
@@ -89,10 +54,8 @@ pub fn put_entry(file: &[u8], section: Section, out: &mut [u8], at: usize) -> us
 {
     let d = section.description;
     let block = section.block;
-    let from = block.from;
-    let to = block.to;
     let numbers = kinds(section);
     let after_kinds = put_four(out, at, section.first as u64, d.size, d.elements, numbers);
     let after_numbers = put_four(out, after_kinds, d.id, d.fastest, d.second, d.third);
-    put_label(file, from, to, out, after_numbers)
+    put_label(&file[block.from..block.to], out, after_numbers)
 }

@@ -7,5 +7,4 @@ mod entry;
 mod little;
 mod write_catalogue;
 
-pub use entry::{compression_number, encoding_number, type_number};
 pub use write_catalogue::catalogue;

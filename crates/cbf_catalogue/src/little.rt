@@ -11,13 +11,11 @@ pub fn put_little(out: &mut [u8], at: usize, k: usize, n: u64) -> usize
     ensures out_after { out.new ≡ sets out.old at (octets k n) }
 {
     let mut rest = n;
-    let mut i: usize = 0;
-    while i < k {
+    for i in 0..k {
         out[at + i] = (rest % 256) as u8;
         rest = rest / 256;
-        i += 1;
     }
-    at + i
+    at + k
 }
 
 // Writes that many zeros to out from at on; the place after them.
@@ -26,5 +24,6 @@ pub fn put_zeros(out: &mut [u8], at: usize, count: usize) -> usize
     ensures value { result ≡ at + count }
     ensures out_after { out.new ≡ sets out.old at (zeros count) }
 {
-    put_little(out, at, count, 0)
+    out[at..at + count].fill(0);
+    at + count
 }

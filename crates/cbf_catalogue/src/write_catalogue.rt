@@ -6,9 +6,8 @@ ghost use Rattle.cbf_catalogue.specs.WriteCatalogue.{heading};
 ghost use Rattle.cbf_format.specs.CatalogueCalls.{catalogue_outcome, catalogue_output};
 ghost use Rattle.cbf_format.specs.Files as F;
 
-use crate::entries::Counted;
 use crate::{entries, little};
-use cbf_answers::{Answer, Refusal};
+use cbf_answers::{Reason, Refusal};
 
 // Writes what stands before the entries.
 fn put_heading(out: &mut [u8], count: usize)
@@ -21,26 +20,17 @@ fn put_heading(out: &mut [u8], count: usize)
 
 // Writes the catalogue of the file, whose text lines have at most limit characters, to out: reading's refusal, 17,
 // 15, or the catalogue's length.
-pub fn catalogue(file: &[u8], limit: usize, out: &mut [u8]) -> Answer
+pub fn catalogue(file: &[u8], limit: usize, out: &mut [u8]) -> Result<usize, Refusal>
     ensures answer { outcome result ≡ catalogue_outcome (F.read limit file.now)
         (length out.old) }
     ensures output { out.new ≡ catalogue_output (F.read limit file.now) out.old }
 {
-    let counted = entries::entries(file, limit, out, false);
-    match counted {
-        Counted::Refused(r) => Answer::Refused(r),
-        Counted::LongName(p) => Answer::Refused(Refusal {
-            number: 17,
-            place: p,
-        }),
-        Counted::Count(n) => {
-            let needed = 8 + 64 * n;
-            if out.len() < needed {
-                return cbf_answers::refused(15);
-            }
-            put_heading(out, n);
-            entries::entries(file, limit, out, true);
-            Answer::Length(needed)
-        }
+    let count = entries::entries(file, limit, out, false)?;
+    let needed = 8 + 64 * count;
+    if out.len() < needed {
+        return Err(Reason::NoRoom.at(0));
     }
+    put_heading(out, count);
+    entries::entries(file, limit, out, true)?;
+    Ok(needed)
 }

@@ -1,7 +1,8 @@
 -- BASE64 text: octets that were written are read back, and only what octets are written as is read as them. Assumes
 -- nothing.
 use mathlib.Core.Path.{◌≡◌, refl, sym, ap, ◌∙◌}
-use mathlib.Core.Option.{Option, none, some, none-ne-some}
+use Rattle.std.specs.Prelude.{Option, None, Some}
+use Rattle.std.proofs.lemmas.Option.{none-some}
 use mathlib.Core.Bool.{Bool, true, false, ◌&&◌, cond, true≢false}
 use mathlib.Core.List.{List, [], ◌∷◌}
 use Prim.Native.Nat.{ℕ, zero, suc, ◌+◌, ◌*◌, ◌-◌, ◌/◌, ◌%◌, ◌≤◌, ◌<◌}
@@ -50,7 +51,7 @@ letter-symbol n h =
 
 -- ---- what octets are written as is read as them
 
-pub decode-written : {os : List ℕ} → Octets os → decode (written_symbols os) ≡ some os
+pub decode-written : {os : List ℕ} → Octets os → decode (written_symbols os) ≡ Some os
 unfolding encode decode symbol
 decode-written no_octet = refl
 decode-written (octet {o = a} h no_octet) =
@@ -122,16 +123,16 @@ plain-bytes (x ∷ t) p = add-plain (symbol x) (λ n e. symbol-letter x n e) (pl
 -- ---- the octets that a text decodes to are below 256
 
 abbrev pub OctetsIn : Option (List ℕ) → Type 0
-OctetsIn none = Unit {0}
-OctetsIn (some os) = Octets os
+OctetsIn None = Unit {0}
+OctetsIn (Some os) = Octets os
 
 octets-last : (b : Bool) {os : List ℕ} → Octets os → OctetsIn (last_group b os)
 octets-last true h = h
 octets-last false h = tt
 
 octets-three : {a b c : ℕ} (o : Option (List ℕ)) → a < 256 → b < 256 → c < 256 → OctetsIn o → OctetsIn (add_octets (a ∷ b ∷ c ∷ []) o)
-octets-three none ha hb hc h = tt
-octets-three (some os) ha hb hc h = octet ha (octet hb (octet hc h))
+octets-three None ha hb hc h = tt
+octets-three (Some os) ha hb hc h = octet ha (octet hb (octet hc h))
 
 octets-four : {a b c d : Symbol} (l : List Symbol) → Plain a → Plain b → Plain c → Plain d → OctetsIn (decode l) → OctetsIn (decode (a ∷ b ∷ c ∷ d ∷ l))
 unfolding decode
@@ -179,36 +180,36 @@ only_one a b ha hb z =
     let q : (a * 4 + b / 16) % 4 * 16 ≡ b = omega arith in
     rw (p, q) (rw (letter-symbol a ha, letter-symbol b hb))
 
-pub decode-only : {l : List Symbol} (os : List ℕ) → Plains l → decode l ≡ some os → written_symbols os ≡ l
+pub decode-only : {l : List Symbol} (os : List ℕ) → Plains l → decode l ≡ Some os → written_symbols os ≡ l
 unfolding decode encode
 decode-only os no_symbol e = let z : [] ≡ os = cc in ap written_symbols (sym z)
-decode-only os (more a no_symbol) e = absurd (none-ne-some os e)
-decode-only os (more a (more b no_symbol)) e = absurd (none-ne-some os e)
-decode-only os (more a (more b (more c no_symbol))) e = absurd (none-ne-some os e)
+decode-only os (more a no_symbol) e = absurd (none-some os e)
+decode-only os (more a (more b no_symbol)) e = absurd (none-some os e)
+decode-only os (more a (more b (more c no_symbol))) e = absurd (none-some os e)
 decode-only os (more (letter {n = a} ha) (more (letter {n = b} hb) (more (letter {n = c} hc) (more {l = l} (letter {n = d} hd) p)))) e =
     full (decode l) refl e (λ os e. decode-only os p e)
   where
-    full : (r : Option (List ℕ)) → decode l ≡ r → add_octets ((a * 4 + b / 16) ∷ (b % 16 * 16 + c / 4) ∷ (c % 4 * 64 + d) ∷ []) r ≡ some os
-        → ((os : List ℕ) → decode l ≡ some os → written_symbols os ≡ l) → written_symbols os ≡ Letter a ∷ Letter b ∷ Letter c ∷ Letter d ∷ l
-    full none q e ih = absurd (none-ne-some os e)
-    full (some r) q e ih =
+    full : (r : Option (List ℕ)) → decode l ≡ r → add_octets ((a * 4 + b / 16) ∷ (b % 16 * 16 + c / 4) ∷ (c % 4 * 64 + d) ∷ []) r ≡ Some os
+        → ((os : List ℕ) → decode l ≡ Some os → written_symbols os ≡ l) → written_symbols os ≡ Letter a ∷ Letter b ∷ Letter c ∷ Letter d ∷ l
+    full None q e ih = absurd (none-some os e)
+    full (Some r) q e ih =
         let z : (a * 4 + b / 16) ∷ (b % 16 * 16 + c / 4) ∷ (c % 4 * 64 + d) ∷ r ≡ os = cc in
         ap written_symbols (sym z) ∙ only-full a b c d l r ha hb hc hd (ih r q)
 decode-only os (more (letter {n = a} ha) (more (letter {n = b} hb) (more (letter {n = c} hc) (more pad no_symbol)))) e = two (eqb (c % 4) 0) refl e
   where
-    two : (t : Bool) → eqb (c % 4) 0 ≡ t → last_group t ((a * 4 + b / 16) ∷ (b % 16 * 16 + c / 4) ∷ []) ≡ some os
+    two : (t : Bool) → eqb (c % 4) 0 ≡ t → last_group t ((a * 4 + b / 16) ∷ (b % 16 * 16 + c / 4) ∷ []) ≡ Some os
         → written_symbols os ≡ Letter a ∷ Letter b ∷ Letter c ∷ Pad ∷ []
     two true q e =
         let z : (a * 4 + b / 16) ∷ (b % 16 * 16 + c / 4) ∷ [] ≡ os = cc in
         ap written_symbols (sym z) ∙ only_two a b c ha hb hc (eqb-true (c % 4) 0 q)
-    two false q e = absurd (none-ne-some os e)
-decode-only os (more (letter ha) (more (letter hb) (more (letter hc) (more pad (more s p))))) e = absurd (none-ne-some os e)
+    two false q e = absurd (none-some os e)
+decode-only os (more (letter ha) (more (letter hb) (more (letter hc) (more pad (more s p))))) e = absurd (none-some os e)
 decode-only os (more (letter {n = a} ha) (more (letter {n = b} hb) (more pad (more pad no_symbol)))) e = one (eqb (b % 16) 0) refl e
   where
-    one : (t : Bool) → eqb (b % 16) 0 ≡ t → last_group t ((a * 4 + b / 16) ∷ []) ≡ some os → written_symbols os ≡ Letter a ∷ Letter b ∷ Pad ∷ Pad ∷ []
+    one : (t : Bool) → eqb (b % 16) 0 ≡ t → last_group t ((a * 4 + b / 16) ∷ []) ≡ Some os → written_symbols os ≡ Letter a ∷ Letter b ∷ Pad ∷ Pad ∷ []
     one true q e = let z : (a * 4 + b / 16) ∷ [] ≡ os = cc in ap written_symbols (sym z) ∙ only_one a b ha hb (eqb-true (b % 16) 0 q)
-    one false q e = absurd (none-ne-some os e)
-decode-only os (more (letter ha) (more (letter hb) (more pad (more pad (more s p))))) e = absurd (none-ne-some os e)
-decode-only os (more (letter ha) (more (letter hb) (more pad (more (letter hd) p)))) e = absurd (none-ne-some os e)
-decode-only os (more (letter ha) (more pad (more c (more d p)))) e = absurd (none-ne-some os e)
-decode-only os (more pad (more b (more c (more d p)))) e = absurd (none-ne-some os e)
+    one false q e = absurd (none-some os e)
+decode-only os (more (letter ha) (more (letter hb) (more pad (more pad (more s p))))) e = absurd (none-some os e)
+decode-only os (more (letter ha) (more (letter hb) (more pad (more (letter hd) p)))) e = absurd (none-some os e)
+decode-only os (more (letter ha) (more pad (more c (more d p)))) e = absurd (none-some os e)
+decode-only os (more pad (more b (more c (more d p)))) e = absurd (none-some os e)

@@ -1,7 +1,7 @@
 -- Printed numbers of at most 10 digits: they are read as the numbers they were printed from, and their bytes are text
 -- with no blank. Assumes nothing.
 use mathlib.Core.Path.{◌≡◌, refl, ap, ◌∙◌}
-use mathlib.Core.Option.{none, some}
+use Rattle.std.specs.Prelude.{None, Some}
 use mathlib.Core.Bool.{Bool, true, false, cond}
 use mathlib.Core.List.{List, [], ◌∷◌, ◌++◌}
 use Prim.Native.Nat.{ℕ, zero, suc, ◌+◌, ◌-◌, ◌*◌, ◌/◌, ◌%◌, ◌^◌, ◌≤◌, ◌<◌}
@@ -72,15 +72,15 @@ digits_of-decimal (suc k) (suc f) n h l = go (ltb n 10) refl (λ h. digits_of-de
 pub decimal-printed : (n : ℕ) → n < 10_000_000_000 → Decimal 10 n (printed n)
 decimal-printed n h = digits_of-decimal 9 19 n h (omega arith)
 
-pub number-printed : (n : ℕ) → n < 10_000_000_000 → decimal_number (printed n) ≡ some n
+pub number-printed : (n : ℕ) → n < 10_000_000_000 → decimal_number (printed n) ≡ Some n
 unfolding decimal_number
 number-printed n h =
     let u = decimal-printed n h in
-    rw (le-leb 1 (length (printed n)) u.least, le-leb (length (printed n)) 10 u.most, u.all_digits) (ap (λ (k : ℕ). some k) u.value)
+    rw (le-leb 1 (length (printed n)) u.least, le-leb (length (printed n)) 10 u.most, u.all_digits) (ap (λ (k : ℕ). Some k) u.value)
 
 -- ---- their bytes
 
-pub refused-digits : (limit i : ℕ) (t : List ℕ) → digits t ≡ true → i + length t ≤ limit → refused_byte limit i t ≡ none
+pub refused-digits : (limit i : ℕ) (t : List ℕ) → digits t ≡ true → i + length t ≤ limit → refused_byte limit i t ≡ None
 refused-digits limit i [] h l = refl
 refused-digits limit i (x ∷ t) h l =
     let d = undigits x t h in

@@ -1,7 +1,8 @@
 -- A step of reading is tame and moves, and what it says; reading gives a tree exactly where it is good and put
 -- together is the file. Assumes nothing.
 use mathlib.Core.Path.{◌≡◌, refl, sym, ap, ◌∙◌}
-use mathlib.Core.Option.{Option, none, some, none-ne-some, some-ne-none}
+use Rattle.std.specs.Prelude.{Option, None, Some}
+use Rattle.std.proofs.lemmas.Option.{none-some}
 use mathlib.Core.Bool.{Bool, true, false, ◌&&◌, cond}
 use mathlib.Core.List.{List, [], ◌∷◌, ◌++◌}
 use Prim.Native.Nat.{ℕ, suc, ◌+◌, ◌≤◌, ◌<◌}
@@ -58,11 +59,11 @@ step-tame limit st =
     (λ tn. either (is_boundary st tn.0) tn)
   where
     after : Section → Parser (Option Section × State)
-    after i = ret (some i, after_section st)
+    after i = ret (Some i, after_section st)
 
-    either : (b : Bool) (tn : List ℕ × ℕ) → Tame (section_or b (bind (section limit st.block tn.1) after) (ret (none, after_line st tn.0 tn.1)))
-    either true tn = bind-tame (section limit st.block tn.1) after (section-tame limit st.block tn.1) (λ i. ret-tame (some i, after_section st))
-    either false tn = ret-tame (none, after_line st tn.0 tn.1)
+    either : (b : Bool) (tn : List ℕ × ℕ) → Tame (section_or b (bind (section limit st.block tn.1) after) (ret (None, after_line st tn.0 tn.1)))
+    either true tn = bind-tame (section limit st.block tn.1) after (section-tame limit st.block tn.1) (λ i. ret-tame (Some i, after_section st))
+    either false tn = ret-tame (None, after_line st tn.0 tn.1)
 
 pub step-moves : (limit : ℕ) (st : State) → Moves (step limit st)
 unfolding step
@@ -86,7 +87,7 @@ pub record Took (limit : ℕ) (st t : State) (s : List ℕ) (i : Section) (n : �
   pub has_room : st.count < 512
   pub after : t ≡ after_section st
   pub name : i.block ≡ st.block
-  pub starts : hd s ≡ some 45
+  pub starts : hd s ≡ Some 45
   pub top : ℕ
   pub rest : ℕ
   pub sum : top + rest ≡ n
@@ -96,14 +97,14 @@ pub record Took (limit : ℕ) (st t : State) (s : List ℕ) (i : Section) (n : �
   pub closes : Closes limit s i.width n
 
 -- not refused as the 513th
-has-room-of : (b c : Bool) → b ≡ true → cond {A = Option (ℕ × ℕ)} (b && c) (some (4, 0)) none ≡ none → c ≡ false
-has-room-of true true q e = absurd (some-ne-none (4, 0) e)
+has-room-of : (b c : Bool) → b ≡ true → cond {A = Option (ℕ × ℕ)} (b && c) (Some (4, 0)) None ≡ None → c ≡ false
+has-room-of true true q e = absurd (none-some (4, 0) (sym e))
 has-room-of true false q e = refl
 has-room-of false c q e = let z : ◌≡◌ {A = ℕ} 0 1 = cc in absurd (omega arith)
 
 module _ (limit : ℕ) (st t : State) (s : List ℕ) where
   abbrev after : Section → Parser (Option Section × State)
-  after i = ret (some i, after_section st)
+  after i = ret (Some i, after_section st)
 
   abbrev U₁ : Option Section → ℕ → Type 0
   U₁ o n = Unbound (line_of limit st) (after_step_line limit st) s (o, t) n
@@ -112,7 +113,7 @@ module _ (limit : ℕ) (st t : State) (s : List ℕ) where
   record Lined (tn : List ℕ × ℕ) (n : ℕ) : Type 0 where
     is_line : step_line limit st.field s ≡ ok tn.0 n
     count : tn.1 ≡ n
-    room : one_too_many st tn.0 ≡ none
+    room : one_too_many st tn.0 ≡ None
 
   lined : (tn : List ℕ × ℕ) (n : ℕ) → line_of limit st s ≡ ok tn n → Lined tn n
   lined tn n e = go (uncount (screen (one_too_many st) (step_line limit st.field s)) tn n e)
@@ -120,12 +121,12 @@ module _ (limit : ℕ) (st t : State) (s : List ℕ) where
       go : (screen (one_too_many st) (step_line limit st.field s) ≡ ok tn.0 n) × (tn.1 ≡ n) → Lined tn n
       go c = let u = unscreen (one_too_many st) (step_line limit st.field s) tn.0 n c.0 in record { is_line = u.0; count = c.1; room = u.1 }
 
-  pub passed : (n : ℕ) → step limit st s ≡ ok (none, t) n → Passed limit st t s n
+  pub passed : (n : ℕ) → step limit st s ≡ ok (None, t) n → Passed limit st t s n
   unfolding step
-  passed n e = go (unbind (line_of limit st) (after_step_line limit st) s (none, t) n e)
+  passed n e = go (unbind (line_of limit st) (after_step_line limit st) s (None, t) n e)
     where
-      last : (u : U₁ none n) → is_boundary st u.val.0 ≡ false
-          → ◌≡◌ {A = Res (Option Section × State)} (ok (none, after_line st u.val.0 u.val.1) 0) (ok (none, t) u.second)
+      last : (u : U₁ None n) → is_boundary st u.val.0 ≡ false
+          → ◌≡◌ {A = Res (Option Section × State)} (ok (None, after_line st u.val.0 u.val.1) 0) (ok (None, t) u.second)
           → Lined u.val u.first → Passed limit st t s n
       last u q h l =
           let z : 0 ≡ u.second = ok-num h in
@@ -138,24 +139,24 @@ module _ (limit : ℕ) (st t : State) (s : List ℕ) where
             after = sym a ∙ ap (after_line st u.val.0) (l.count ∙ at);
           }
 
-      by : (u : U₁ none n) (b : Bool) → is_boundary st u.val.0 ≡ b
+      by : (u : U₁ None n) (b : Bool) → is_boundary st u.val.0 ≡ b
           → section_or b (bind (section limit st.block u.val.1) after)
-          (ret (none, after_line st u.val.0 u.val.1)) (drop u.first s) ≡ ok (none, t) u.second
+          (ret (None, after_line st u.val.0 u.val.1)) (drop u.first s) ≡ ok (None, t) u.second
           → Passed limit st t s n
       by u true q h =
-          let v = unbind (section limit st.block u.val.1) after (drop u.first s) (none, t) u.second h in
-          absurd (some-ne-none v.val (ap (λ (o : Option Section × State). o.0) (ok-val v.then_did)))
+          let v = unbind (section limit st.block u.val.1) after (drop u.first s) (None, t) u.second h in
+          absurd (none-some v.val (sym (ap (λ (o : Option Section × State). o.0) (ok-val v.then_did))))
       by u false q h = last u q h (lined u.val u.first u.did)
 
-      go : U₁ none n → Passed limit st t s n
+      go : U₁ None n → Passed limit st t s n
       go u = by u (is_boundary st u.val.0) refl u.then_did
 
-  pub took : (i : Section) (n : ℕ) → step limit st s ≡ ok (some i, t) n → Took limit st t s i n
+  pub took : (i : Section) (n : ℕ) → step limit st s ≡ ok (Some i, t) n → Took limit st t s i n
   unfolding step
-  took i n e = go (unbind (line_of limit st) (after_step_line limit st) s (some i, t) n e)
+  took i n e = go (unbind (line_of limit st) (after_step_line limit st) s (Some i, t) n e)
     where
-      U₂ : U₁ (some i) n → Type 0
-      U₂ u = Unbound (section limit st.block u.val.1) after (drop u.first s) (some i, t) u.second
+      U₂ : U₁ (Some i) n → Type 0
+      U₂ u = Unbound (section limit st.block u.val.1) after (drop u.first s) (Some i, t) u.second
 
       -- the widths of a section whose boundary line has k bytes
       spanned : (k m : ℕ) → k + m ≡ n → (c : Sectioned limit st.block k (drop k s) i m) → (i.first ≤ i.width) × Closes limit s i.width n
@@ -167,7 +168,7 @@ module _ (limit : ℕ) (st t : State) (s : List ℕ) where
           c.head (drop k s) d.closes refl refl in
           (omega (arith, f, w, d.lead), closes-later limit k s nearer (omega (arith, w)) (omega (arith, q, c.sum)))
 
-      last : (u : U₁ (some i) n) (v : U₂ u) → is_boundary st u.val.0 ≡ true → Lined u.val u.first
+      last : (u : U₁ (Some i) n) (v : U₂ u) → is_boundary st u.val.0 ≡ true → Lined u.val u.first
           → Sectioned limit st.block u.first (drop u.first s) i v.first → Took limit st t s i n
       last u v q l c =
           let z : 0 ≡ v.second = ok-num v.then_did in
@@ -191,30 +192,30 @@ module _ (limit : ℕ) (st t : State) (s : List ℕ) where
             closes = w.1;
           }
 
-      found : (u : U₁ (some i) n) (v : U₂ u) → Lined u.val u.first → section limit st.block u.first (drop u.first s) ≡ ok i v.first
+      found : (u : U₁ (Some i) n) (v : U₂ u) → Lined u.val u.first → section limit st.block u.first (drop u.first s) ≡ ok i v.first
       found u v l =
-          let q : some v.val ≡ some i = ap (λ (o : Option Section × State). o.0) (ok-val v.then_did) in
+          let q : Some v.val ≡ Some i = ap (λ (o : Option Section × State). o.0) (ok-val v.then_did) in
           let r : v.val ≡ i = cc in
           ap (λ (k : ℕ). section limit st.block k (drop u.first s)) (sym l.count) ∙ v.did ∙ ap (λ (z : Section). ok z v.first) r
 
-      mid : (u : U₁ (some i) n) (v : U₂ u) → is_boundary st u.val.0 ≡ true → Lined u.val u.first → Took limit st t s i n
+      mid : (u : U₁ (Some i) n) (v : U₂ u) → is_boundary st u.val.0 ≡ true → Lined u.val u.first → Took limit st t s i n
       mid u v q l = last u v q l (sectioned limit st.block u.first (drop u.first s) i v.first (found u v l))
 
-      by : (u : U₁ (some i) n) (b : Bool) → is_boundary st u.val.0 ≡ b
+      by : (u : U₁ (Some i) n) (b : Bool) → is_boundary st u.val.0 ≡ b
           → section_or b (bind (section limit st.block u.val.1) after)
-          (ret (none, after_line st u.val.0 u.val.1)) (drop u.first s) ≡ ok (some i, t) u.second
+          (ret (None, after_line st u.val.0 u.val.1)) (drop u.first s) ≡ ok (Some i, t) u.second
           → Took limit st t s i n
-      by u false q h = absurd (none-ne-some i (ap (λ (o : Option Section × State). o.0) (ok-val h)))
-      by u true q h = mid u (unbind (section limit st.block u.val.1) after (drop u.first s) (some i, t)
+      by u false q h = absurd (none-some i (ap (λ (o : Option Section × State). o.0) (ok-val h)))
+      by u true q h = mid u (unbind (section limit st.block u.val.1) after (drop u.first s) (Some i, t)
           u.second h) q (lined u.val u.first u.did)
 
-      go : U₁ (some i) n → Took limit st t s i n
+      go : U₁ (Some i) n → Took limit st t s i n
       go u = by u (is_boundary st u.val.0) refl u.then_did
 
 -- ---- spans
 
 -- a span lies in its item
-pub span-in : (limit : ℕ) (st t : State) (b r : List ℕ) (i : Section) → step limit st (b ++ r) ≡ ok (some i, t) (length b) → i.width ≤ length b
+pub span-in : (limit : ℕ) (st t : State) (b r : List ℕ) (i : Section) → step limit st (b ++ r) ≡ ok (Some i, t) (length b) → i.width ≤ length b
 span-in limit st t b r i e = omega (arith, (took limit st t (b ++ r) i (length b) e).closes.sum)
 
 -- ---- reading
@@ -267,11 +268,11 @@ counts limit (it ∷ its) st at g h = go it.info it.next g.0 (λ h. counts limit
 
     go : (o : Option Section) (t : State) → step limit st (it.bytes ++ flat its) ≡ ok (o, t) (length it.bytes)
         → (t.count ≤ 512 → t.count + length rest ≤ 512) → st.count + length (add_placed at o rest) ≤ 512
-    go none t e ih =
+    go None t e ih =
         let p = passed limit st t (it.bytes ++ flat its) (length it.bytes) e in
         let c : t.count ≡ st.count = ap (λ (z : State). z.count) p.after in
         omega (arith, c, ih (omega (arith, c, h)))
-    go (some i) t e ih =
+    go (Some i) t e ih =
         let k = took limit st t (it.bytes ++ flat its) i (length it.bytes) e in
         let c : t.count ≡ suc st.count = ap (λ (z : State). z.count) k.after in
         omega (arith, c, ih (omega (arith, c, k.has_room)))

@@ -1,7 +1,8 @@
 -- Header lines that are written, each ended 13 10, are read as themselves, and a line of a known header gives that
 -- header's value. Assumes nothing.
 use mathlib.Core.Path.{◌≡◌, refl, ap, ◌∙◌}
-use mathlib.Core.Option.{none, some, none-ne-some}
+use Rattle.std.specs.Prelude.{None, Some}
+use Rattle.std.proofs.lemmas.Option.{none-some}
 use mathlib.Core.Bool.{Bool, true, false, cond, not}
 use mathlib.Core.List.{List, [], ◌∷◌, ◌++◌, append_assoc, append-nil}
 use Prim.Native.Nat.{ℕ, zero, suc, ◌+◌, ◌≤◌, ◌<◌}
@@ -32,11 +33,11 @@ text-no-end x h = (
 )
 
 -- a text line is one for any greater limit
-refused-more : (limit most i : ℕ) (t : List ℕ) → limit ≤ most → refused_byte limit i t ≡ none → refused_byte most i t ≡ none
+refused-more : (limit most i : ℕ) (t : List ℕ) → limit ≤ most → refused_byte limit i t ≡ None → refused_byte most i t ≡ None
 refused-more limit most i [] l h = refl
 refused-more limit most i (x ∷ t) l h = let u = unrefused limit i x t h in rw (u.0, lt-ltb i most (omega arith)) (refused-more limit most (suc i) t l u.2)
 
-line-ended : (limit i : ℕ) (t r : List ℕ) → refused_byte limit i t ≡ none → line (t ++ (13 ∷ 10 ∷ r)) ≡ ok t (length t + 2)
+line-ended : (limit i : ℕ) (t r : List ℕ) → refused_byte limit i t ≡ None → line (t ++ (13 ∷ 10 ∷ r)) ≡ ok t (length t + 2)
 line-ended limit i [] r h = refl
 line-ended limit i (x ∷ t) r h =
     let u = unrefused limit i x t h in
@@ -46,7 +47,7 @@ line-ended limit i (x ∷ t) r h =
 -- a line that can be written
 pub record Written (limit : ℕ) (first : Bool) (l : List ℕ) : Type 0 where
   pub some_byte : 0 < length l
-  pub fine : refused_byte limit 0 l ≡ none
+  pub fine : refused_byte limit 0 l ≡ None
   pub formed : malformed first l ≡ false
 
 header_line-ended : (limit most : ℕ) (first : Bool) (l r : List ℕ) → limit ≤ most → Written limit first l
@@ -98,10 +99,10 @@ pub record Gives (limit : ℕ) (k : KnownHeader) (n : ℕ) (l : List ℕ) : Type
   pub name : List ℕ
   pub value : List ℕ
   pub formed : malformed true l ≡ false
-  pub split : split_colon l ≡ some (name, value)
-  pub is_known : header_named known_headers name ≡ some k
-  pub is_value : value_of k (trim value) ≡ some n
-  pub fine : refused_byte limit 0 l ≡ none
+  pub split : split_colon l ≡ Some (name, value)
+  pub is_known : header_named known_headers name ≡ Some k
+  pub is_value : value_of k (trim value) ≡ Some n
+  pub fine : refused_byte limit 0 l ≡ None
 
 -- at most so many lines, that can be written; they begin with a header; and with the headers found before, they are
 -- judged to be these
@@ -123,15 +124,15 @@ starts (x ∷ t) h = go (blank x) h
     go true h = let z : ◌≡◌ {A = ℕ} 0 1 = cc in absurd (omega arith)
     go false h = (refl, h)
 
-some_bytes : (l : List ℕ) (nv : List ℕ × List ℕ) → split_colon l ≡ some nv → 0 < length l
-some_bytes [] nv e = absurd (none-ne-some nv e)
+some_bytes : (l : List ℕ) (nv : List ℕ × List ℕ) → split_colon l ≡ Some nv → 0 < length l
+some_bytes [] nv e = absurd (none-some nv e)
 some_bytes (x ∷ l) nv e = omega arith
 
 module _ {limit : ℕ} {k : KnownHeader} {n : ℕ} {l : List ℕ} (g : Gives limit k n l) where
   pub gives-written : Written limit false l
   gives-written = record { some_byte = some_bytes l (g.name, g.value) g.split; fine = g.fine; formed = (starts l g.formed).1 }
 
-  pub say-line : {most : ℕ} {ls : List (List ℕ)} {before after : List (KnownHeader × ℕ)} → look k before ≡ none → Say limit most ls ((k, n) ∷ before) after
+  pub say-line : {most : ℕ} {ls : List (List ℕ)} {before after : List (KnownHeader × ℕ)} → look k before ≡ None → Say limit most ls ((k, n) ∷ before) after
       → Say limit (suc most) (l ∷ ls) before after
   unfolding AllWritten placed judge
   say-line e s = record {

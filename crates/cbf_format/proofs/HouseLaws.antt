@@ -1,6 +1,7 @@
 -- The headers of house form are read as what they were written from. Assumes nothing.
 use mathlib.Core.Path.{◌≡◌, refl, ap, ◌∙◌}
-use mathlib.Core.Option.{Option, none, some, get_or}
+use Rattle.std.specs.Prelude.{Option, None, Some}
+use Rattle.std.specs.Prelude.{unwrap_or}
 use mathlib.Core.Bool.{Bool, true, false}
 use mathlib.Core.List.{List, [], ◌∷◌, ◌++◌}
 use Prim.Native.Nat.{ℕ, zero, suc, ◌+◌, ◌*◌, ◌≤◌, ◌<◌}
@@ -26,7 +27,7 @@ use Rattle.cbf_format.specs.Descriptions.{description, optional, or_zero, compre
 use Rattle.cbf_format.specs.Descriptions.{or_disagrees, describes, verdict_of, verdict, concluded, headers}
 use Rattle.cbf_answers.specs.Limits.{file_limit, pixel_limit}
 use Rattle.cbf_format.specs.Listing.{printed}
-use Rattle.cbf_format.specs.Catalogue.{type_number}
+use Rattle.cbf_pixels.specs.Numbers.{type_number}
 use Rattle.cbf_format.specs.House.{ended_lines, number_line, house_lines}
 use Rattle.cbf_format.proofs.VerdictLaws.{Known}
 use Rattle.cbf_format.proofs.DecimalLaws.{decimal-printed, number-printed, refused-digits, trim_digits}
@@ -43,7 +44,7 @@ Seen = Bool × Option (List ℕ × List ℕ) × Option KnownHeader × Option ℕ
 abbrev seen : KnownHeader → List ℕ → List ℕ → List ℕ → Seen
 seen k l name value = (malformed true l, split_colon l, header_named known_headers name, value_of k (trim value), refused_byte longest 0 l)
 
-gives : (k : KnownHeader) (n : ℕ) (l name value : List ℕ) → seen k l name value ≡ (false, some (name, value), some k, some n, none) → Gives longest k n l
+gives : (k : KnownHeader) (n : ℕ) (l name value : List ℕ) → seen k l name value ≡ (false, Some (name, value), Some k, Some n, None) → Gives longest k n l
 gives k n l name value e = record {
   name = name;
   value = value;
@@ -63,20 +64,20 @@ start name = name ++ bytes ": "
 abbrev Names : KnownHeader → ℕ → ℕ → List ℕ → Type 0
 Names k least most name = (v : List ℕ)
     → ◌≡◌ {A = Bool × Bool × Seen} (leb (length (start name)) 38, ltb most 10_000_000_000, seen k (start name ++ v) name (32 ∷ v))
-    (true, true, (false, some (name, 32 ∷ v), some k, between least most (decimal_number (trim v)), refused_byte longest (length (start name)) v))
+    (true, true, (false, Some (name, 32 ∷ v), Some k, between least most (decimal_number (trim v)), refused_byte longest (length (start name)) v))
 
 -- what is found with the value of header k, if there is one
 abbrev adding : KnownHeader → Option ℕ → List (KnownHeader × ℕ) → List (KnownHeader × ℕ)
-adding k none fs = fs
-adding k (some n) fs = (k, n) ∷ fs
+adding k None fs = fs
+adding k (Some n) fs = (k, n) ∷ fs
 
 look-other : (j k : KnownHeader) (o : Option ℕ) (fs : List (KnownHeader × ℕ)) → same_header j k ≡ false → look j (adding k o fs) ≡ look j fs
-look-other j k none fs h = refl
-look-other j k (some n) fs h = rw h
+look-other j k None fs h = refl
+look-other j k (Some n) fs h = rw h
 
-look-same : (k : KnownHeader) (o : Option ℕ) (fs : List (KnownHeader × ℕ)) → look k fs ≡ none → look k (adding k o fs) ≡ o
-look-same k none fs h = h
-look-same k (some n) fs h = rw (eq-eqb (ordinal k) (ordinal k) refl)
+look-same : (k : KnownHeader) (o : Option ℕ) (fs : List (KnownHeader × ℕ)) → look k fs ≡ None → look k (adding k o fs) ≡ o
+look-same k None fs h = h
+look-same k (Some n) fs h = rw (eq-eqb (ordinal k) (ordinal k) refl)
 
 module _ (k : KnownHeader) (least most : ℕ) (name : List ℕ) (names : Names k least most name) where
   gives-number : (n : ℕ) → least ≤ n → n ≤ most → Gives longest k n (start name ++ printed n)
@@ -96,11 +97,11 @@ module _ (k : KnownHeader) (least most : ℕ) (name : List ℕ) (names : Names k
       ))
 
   -- a number, and one that may be absent
-  say-number : {n lines : ℕ} {ls : List (List ℕ)} {before after : List (KnownHeader × ℕ)} → least ≤ n → n ≤ most → look k before ≡ none
+  say-number : {n lines : ℕ} {ls : List (List ℕ)} {before after : List (KnownHeader × ℕ)} → least ≤ n → n ≤ most → look k before ≡ None
       → Say longest lines ls ((k, n) ∷ before) after → Say longest (suc lines) ((start name ++ printed n) ∷ ls) before after
   say-number {n} l h e s = say-line (gives-number n l h) e s
 
-  say-optional : (m : ℕ) {lines : ℕ} {ls : List (List ℕ)} {before after : List (KnownHeader × ℕ)} → least ≤ 1 → m ≤ most → look k before ≡ none
+  say-optional : (m : ℕ) {lines : ℕ} {ls : List (List ℕ)} {before after : List (KnownHeader × ℕ)} → least ≤ 1 → m ≤ most → look k before ≡ None
       → Say longest lines ls (adding k (optional m) before) after → Say longest (suc lines) (number_line (start name) (optional m) ls) before after
   say-optional zero l h e s = record { few = omega arith; written = s.written; whole = s.whole; judged = s.judged }
   say-optional (suc n) l h e s = say-number (omega arith) h e s
@@ -113,7 +114,7 @@ gives-type t = gives Kind (type_number t) _ (bytes "X-Binary-Element-Type") (byt
     go : (t : ElementType)
         → seen Kind (bytes "X-Binary-Element-Type: \"" ++ (type_words t ++ bytes "\"")) (bytes "X-Binary-Element-Type")
         (bytes " \"" ++ (type_words t ++ bytes "\""))
-        ≡ (false, some (bytes "X-Binary-Element-Type", bytes " \"" ++ (type_words t ++ bytes "\"")), some Kind, some (type_number t), none)
+        ≡ (false, Some (bytes "X-Binary-Element-Type", bytes " \"" ++ (type_words t ++ bytes "\"")), Some Kind, Some (type_number t), None)
     go U8 = refl
     go S8 = refl
     go U16 = refl
@@ -186,14 +187,14 @@ module _ (size : ℕ) (d : Description) where
 
   house-said : description 0 size d.elements all ≡ housed size d
   house-said =
-      let c : look ContentType all ≡ some 1 = simp look-other in
-      let t : look Kind all ≡ some (type_number d.kind) = simp look-other in
+      let c : look ContentType all ≡ Some 1 = simp look-other in
+      let t : look Kind all ≡ Some (type_number d.kind) = simp look-other in
       let n : look Id all ≡ optional d.id = simp (look-other, look-same) in
       let f : look Fastest all ≡ optional d.fastest = simp (look-other, look-same) in
       let g : look Second all ≡ optional d.second = simp (look-other, look-same) in
       let h : look Third all ≡ optional d.third = simp (look-other, look-same) in
       λ i. description_of Binary size d.elements (compression_of (or_zero (c i)))
-      ((ap (λ (o : Option ℕ). type_of (get_or o 5)) t ∙ type-numbered d.kind) i)
+      ((ap (λ (o : Option ℕ). type_of (unwrap_or o 5)) t ∙ type-numbered d.kind) i)
       ((ap or_zero n ∙ optional-value d.id) i) ((ap or_zero f ∙ optional-value d.fastest) i)
       ((ap or_zero g ∙ optional-value d.second) i) ((ap or_zero h ∙ optional-value d.third) i)
 
@@ -201,9 +202,9 @@ module _ (size : ℕ) (d : Description) where
       → dimensions_agree (optional d.fastest) (optional d.second) (optional d.third) d.elements ≡ true
       → verdict_of empty (found all) ≡ describes (housed size d)
   house-described empty l h a =
-      let e : look TransferEncoding all ≡ some 0 = simp look-other in
-      let n : look Size all ≡ some size = simp look-other in
-      let k : look Elements all ≡ some d.elements = simp look-other in
+      let e : look TransferEncoding all ≡ Some 0 = simp look-other in
+      let n : look Size all ≡ Some size = simp look-other in
+      let k : look Elements all ≡ Some d.elements = simp look-other in
       (λ i. described empty (e i) (n i) (k i) all)
       ∙ ap (or_disagrees empty) house-said
       ∙ rw (le-leb d.elements size l, le-leb size (15 * d.elements) h, a)

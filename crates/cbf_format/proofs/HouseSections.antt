@@ -1,6 +1,7 @@
 -- A section in house form reads back, in any place where a section was read. Assumes nothing.
 use mathlib.Core.Path.{◌≡◌, refl, sym, ap, ◌∙◌}
-use mathlib.Core.Option.{Option, none, some, some-ne-none}
+use Rattle.std.specs.Prelude.{Option, None, Some}
+use Rattle.std.proofs.lemmas.Option.{none-some}
 use mathlib.Core.Bool.{Bool, true, false, cond}
 use mathlib.Core.List.{List, [], ◌∷◌, ◌++◌, append_assoc}
 use Prim.Native.Nat.{ℕ, suc, ◌+◌, ◌*◌, ◌≤◌, ◌<◌}
@@ -60,16 +61,16 @@ length-house d os =
 -- ---- the boundary line
 
 -- a text line that is accepted is accepted under a greater limit
-pub refused_byte-more : (least limit i : ℕ) (t : List ℕ) → least ≤ limit → refused_byte least i t ≡ none → refused_byte limit i t ≡ none
+pub refused_byte-more : (least limit i : ℕ) (t : List ℕ) → least ≤ limit → refused_byte least i t ≡ None → refused_byte limit i t ≡ None
 refused_byte-more least limit i [] h e = refl
 refused_byte-more least limit i (x ∷ t) h e = go (textual x) (ltb i least) refl e (λ e. refused_byte-more least limit (suc i) t h e)
   where
-    go : (b c : Bool) → ltb i least ≡ c → cond b (cond c (refused_byte least (suc i) t) (some (2, i))) (some (3, i)) ≡ none
-        → (refused_byte least (suc i) t ≡ none → refused_byte limit (suc i) t ≡ none)
-        → cond b (cond (ltb i limit) (refused_byte limit (suc i) t) (some (2, i))) (some (3, i)) ≡ none
+    go : (b c : Bool) → ltb i least ≡ c → cond b (cond c (refused_byte least (suc i) t) (Some (2, i))) (Some (3, i)) ≡ None
+        → (refused_byte least (suc i) t ≡ None → refused_byte limit (suc i) t ≡ None)
+        → cond b (cond (ltb i limit) (refused_byte limit (suc i) t) (Some (2, i))) (Some (3, i)) ≡ None
     go true true q e ih = rw (lt-ltb i limit (omega (arith, h, ltb-true i least q))) (ih e)
-    go true false q e ih = absurd (some-ne-none (2, i) e)
-    go false c q e ih = absurd (some-ne-none (3, i) e)
+    go true false q e ih = absurd (none-some (2, i) (sym e))
+    go false c q e ih = absurd (none-some (3, i) (sym e))
 
 opening-line : (limit : ℕ) (f : Field) (s : List ℕ) → 48 ≤ limit → is_opened f ≡ true → step_line limit f (ended opening ++ s) ≡ ok opening 31
 unfolding text_line
@@ -134,7 +135,7 @@ house-then d os q =
 step-house : (limit : ℕ) (st : State) (os q t : List ℕ) (k : ℕ) (i : Section) → 48 ≤ limit → Fits i.description os
     → is_opened st.field ≡ true → st.count < 512
     → i.block ≡ st.block → after_span limit q ≡ ok t k
-    → step limit st (house i.description os ++ q) ≡ ok (some (housed_section os i), after_section st) (length (house i.description os) + k)
+    → step limit st (house i.description os ++ q) ≡ ok (Some (housed_section os i), after_section st) (length (house i.description os) + k)
 unfolding step
 step-house limit st os q t k i l f is_open room name e =
     let d = i.description in
@@ -147,9 +148,9 @@ step-house limit st os q t k i l f is_open room name e =
     let total : 31 + (u + 2 + (4 + (length os + (33 + k)))) ≡ length (house d os) + k = omega (arith, length-house d os) in
     ap (step limit st) (house-then d os q)
     ∙ bind-at (line_of limit st) (after_step_line limit st) (ended opening ++ s) s 31 top refl
-    (rw is_open (then-made (section limit st.block 31) (λ j. (some j, after_section st)) s (section-house limit st.block d os q t k l f e)))
+    (rw is_open (then-made (section limit st.block 31) (λ j. (Some j, after_section st)) s (section-house limit st.block d os q t k l f e)))
     ∙ (λ j. ok (
-      some (record {
+      Some (record {
         description = housed (length os) d;
         octets = os;
         first = lead j;
@@ -171,7 +172,7 @@ house-lawful limit os i l f = record {
 }
   where
     reads : (st t : State) (b r : List ℕ) → Took limit st t (b ++ r) i (length b)
-        → step limit st ((house i.description os ++ drop i.width b) ++ r) ≡ ok (some (housed_section os i), t)
+        → step limit st ((house i.description os ++ drop i.width b) ++ r) ≡ ok (Some (housed_section os i), t)
         (length (house i.description os ++ drop i.width b))
     reads st t b r u =
         let new = house i.description os in
@@ -182,4 +183,4 @@ house-lawful limit os i l f = record {
         ap (after_span limit) (sym (drop-append-le i.width b r wide)) ∙ u.closes.closes ∙ ap (λ (k : ℕ). ok u.closes.tail k) len in
         ap (step limit st) (append_assoc new end r)
         ∙ step-house limit st os (end ++ r) u.closes.tail (length end) i l f u.is_opened u.has_room u.name e
-        ∙ (λ j. ok (some (housed_section os i), sym u.after j) (sym (length-append new end) j))
+        ∙ (λ j. ok (Some (housed_section os i), sym u.after j) (sym (length-append new end) j))

@@ -1,6 +1,7 @@
 -- Lines and runs of bytes are tame, a line moves, and a text line is no longer than its limit. Assumes nothing.
 use mathlib.Core.Path.{◌≡◌, refl, sym, ap, ◌∙◌}
-use mathlib.Core.Option.{Option, none, some, some-ne-none}
+use Rattle.std.specs.Prelude.{Option, None, Some}
+use Rattle.std.proofs.lemmas.Option.{none-some}
 use mathlib.Core.Bool.{Bool, true, false, ◌&&◌, cond}
 use mathlib.Core.List.{List, [], ◌∷◌, ◌++◌}
 use Prim.Native.Nat.{ℕ, suc, ◌+◌, ◌≤◌, ◌<◌}
@@ -20,8 +21,8 @@ use Rattle.cbf_format.specs.Headers.{or_malformed, malformed, header_line}
 -- ---- a line
 
 end_length-pos : (o : Option ℕ) → 0 < end_length o
-end_length-pos none = omega arith
-end_length-pos (some y) = go (eqb y 10)
+end_length-pos None = omega arith
+end_length-pos (Some y) = go (eqb y 10)
   where
     go : (b : Bool) → 0 < cond b 2 1
     go true = omega arith
@@ -79,11 +80,11 @@ line-tame = record { within = within; near = near }
             rw q (ap (λ (z : List ℕ). ok z (suc (length b))) (sym u.3))
 
 -- a line that is not empty begins with its first byte
-pub line-hd : (s : List ℕ) (x : ℕ) (t : List ℕ) (n : ℕ) → line s ≡ ok (x ∷ t) n → hd s ≡ some x
+pub line-hd : (s : List ℕ) (x : ℕ) (t : List ℕ) (n : ℕ) → line s ≡ ok (x ∷ t) n → hd s ≡ Some x
 line-hd [] x t n e = let z : ◌≡◌ {A = ℕ} 0 1 = cc in absurd (omega arith)
 line-hd (y ∷ s) x t n e = go (eqb y 10) (eqb y 13) e
   where
-    go : (u v : Bool) → line_or u v y s (line s) ≡ ok (x ∷ t) n → some y ≡ some x
+    go : (u v : Bool) → line_or u v y s (line s) ≡ ok (x ∷ t) n → Some y ≡ Some x
     go true v e = let z : ◌≡◌ {A = ℕ} 0 1 = cc in absurd (omega arith)
     go false true e = let z : ◌≡◌ {A = ℕ} 0 1 = cc in absurd (omega arith)
     go false false e = let u = unadd y (line s) (x ∷ t) n e in let q : x ∷ t ≡ y ∷ u.0 = u.3 in cc
@@ -95,16 +96,16 @@ unfolding text_line
 text_line-tame limit = screen-tame (refused_byte limit 0) line-tame
 
 -- the first byte of an accepted text line from column i on, and the rest
-pub unrefused : (limit i x : ℕ) (t : List ℕ) → refused_byte limit i (x ∷ t) ≡ none → (textual x ≡ true) × (i < limit) × (refused_byte limit (suc i) t ≡ none)
+pub unrefused : (limit i x : ℕ) (t : List ℕ) → refused_byte limit i (x ∷ t) ≡ None → (textual x ≡ true) × (i < limit) × (refused_byte limit (suc i) t ≡ None)
 unrefused limit i x t h = go (textual x) refl (ltb i limit) refl h
   where
-    go : (a : Bool) → textual x ≡ a → (b : Bool) → ltb i limit ≡ b → cond a (cond b (refused_byte limit (suc i) t) (some (2, i))) (some (3, i)) ≡ none
-        → (textual x ≡ true) × (i < limit) × (refused_byte limit (suc i) t ≡ none)
+    go : (a : Bool) → textual x ≡ a → (b : Bool) → ltb i limit ≡ b → cond a (cond b (refused_byte limit (suc i) t) (Some (2, i))) (Some (3, i)) ≡ None
+        → (textual x ≡ true) × (i < limit) × (refused_byte limit (suc i) t ≡ None)
     go true p true q h = (p, ltb-true i limit q, h)
-    go true p false q h = absurd (some-ne-none (2, i) h)
-    go false p b q h = absurd (some-ne-none (3, i) h)
+    go true p false q h = absurd (none-some (2, i) (sym h))
+    go false p b q h = absurd (none-some (3, i) (sym h))
 
-bytes-short : (limit i : ℕ) (t : List ℕ) → i ≤ limit → refused_byte limit i t ≡ none → i + length t ≤ limit
+bytes-short : (limit i : ℕ) (t : List ℕ) → i ≤ limit → refused_byte limit i t ≡ None → i + length t ≤ limit
 bytes-short limit i [] h e = omega arith
 bytes-short limit i (x ∷ t) h e = let u = unrefused limit i x t e in omega (arith, bytes-short limit (suc i) t u.1 u.2)
 
@@ -150,7 +151,7 @@ octets-tame k = record {
 
 pub word-tame : (w : List ℕ) → Tame (literal w)
 unfolding literal
-word-tame w = screen-tame (λ t. cond (same t w) none (some (9, 0))) (octets-tame (length w))
+word-tame w = screen-tame (λ t. cond (same t w) None (Some (9, 0))) (octets-tame (length w))
 
 -- ---- the same bytes
 

@@ -1,7 +1,7 @@
 -- How long a listing is: of each number, of each block name, of the list of sections, and of the whole. Assumes
 -- nothing.
 use mathlib.Core.Path.{◌≡◌, ap}
-use mathlib.Core.Option.{Option, none, some}
+use Rattle.std.specs.Prelude.{Option, None, Some}
 use mathlib.Core.Bool.{Bool, true, false, cond}
 use mathlib.Core.List.{List, [], ◌∷◌, ◌++◌}
 use Prim.Native.Nat.{ℕ, zero, suc, ◌+◌, ◌*◌, ◌/◌, ◌%◌, ◌≤◌}
@@ -73,13 +73,13 @@ names limit at (it ∷ its) st g h = go it.info it.next g.0 (λ h. names limit (
 
     go : (o : Option Section) (t : State) → step limit st (it.bytes ++ flat its) ≡ ok (o, t) (length it.bytes)
         → (length t.block ≤ limit → NamesWithin limit rest) → NamesWithin limit (add_placed at o rest)
-    go none t e ih =
+    go None t e ih =
         let p = passed limit st t (it.bytes ++ flat its) (length it.bytes) e in
         let b : length t.block ≡ length (next_block st.field p.text st.block) = ap (λ (z : State). length z.block) p.after in
         ih (omega (arith, b, next_block-short limit st.field (it.bytes ++ flat its) p.text st.block (length it.bytes) p.is_line h))
-    go (some i) t e ih = one (took limit st t (it.bytes ++ flat its) i (length it.bytes) e)
+    go (Some i) t e ih = one (took limit st t (it.bytes ++ flat its) i (length it.bytes) e)
       where
-        one : Took limit st t (it.bytes ++ flat its) i (length it.bytes) → NamesWithin limit (add_placed at (some i) rest)
+        one : Took limit st t (it.bytes ++ flat its) i (length it.bytes) → NamesWithin limit (add_placed at (Some i) rest)
         one k =
             let b : length t.block ≡ length st.block = ap (λ (z : State). length z.block) k.after in
             let c : length i.block ≡ length st.block = ap length k.name in

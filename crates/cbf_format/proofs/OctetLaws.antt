@@ -1,7 +1,8 @@
 -- A section of an accepted file and the bytes of the file that its octets come from: where they stand, how many they
 -- are, and what the headers say of them. Assumes nothing.
 use mathlib.Core.Path.{◌≡◌, refl, sym, ap, ◌∙◌, subst}
-use mathlib.Core.Option.{Option, none, some, none-ne-some, some-ne-none}
+use Rattle.std.specs.Prelude.{Option, None, Some}
+use Rattle.std.proofs.lemmas.Option.{none-some}
 use mathlib.Core.Bool.{Bool, true, false}
 use mathlib.Core.List.{List, [], ◌∷◌, ◌++◌}
 use Prim.Native.Nat.{ℕ, zero, suc, ◌+◌, ◌*◌, ◌≤◌}
@@ -73,10 +74,10 @@ module _ (limit : ℕ) (file : List ℕ) where
       }
 
   data-from : (at : ℕ) (its : Tree) (st : State) → at ≤ length file → drop at file ≡ flat its → Good (step limit) due st its
-      → (n : ℕ) (p : Placed) → numbered n (sections at its) ≡ some p → DataAt limit file p
+      → (n : ℕ) (p : Placed) → numbered n (sections at its) ≡ Some p → DataAt limit file p
   unfolding Good sections flat numbered
-  data-from at [] st h e g zero p q = absurd (none-ne-some p q)
-  data-from at [] st h e g (suc n) p q = absurd (none-ne-some p q)
+  data-from at [] st h e g zero p q = absurd (none-some p q)
+  data-from at [] st h e g (suc n) p q = absurd (none-some p q)
   data-from at (it ∷ its) st h e g n p q = go it.info it.next g.0 n q (λ m r. data-from next its it.next fits rest g.2 m p r)
     where
       next : ℕ
@@ -89,17 +90,17 @@ module _ (limit : ℕ) (file : List ℕ) where
       rest = sym (drop-drop (length it.bytes) at file) ∙ ap (drop (length it.bytes)) e ∙ drop_at it.bytes (flat its) (length it.bytes) refl
 
       go : (o : Option Section) (t : State) → step limit st (it.bytes ++ flat its) ≡ ok (o, t) (length it.bytes) → (m : ℕ)
-          → numbered m (add_placed at o (sections next its)) ≡ some p → ((m : ℕ) → numbered m (sections next its)
-          ≡ some p → DataAt limit file p) → DataAt limit file p
-      go none t d m r ih = ih m r
-      go (some i) t d zero r ih = absurd (none-ne-some p r)
-      go (some i) t d (suc zero) r ih =
+          → numbered m (add_placed at o (sections next its)) ≡ Some p → ((m : ℕ) → numbered m (sections next its)
+          ≡ Some p → DataAt limit file p) → DataAt limit file p
+      go None t d m r ih = ih m r
+      go (Some i) t d zero r ih = absurd (none-some p r)
+      go (Some i) t d (suc zero) r ih =
           let s : record { boundary = at; section = i } ≡ p = cc in
           subst (DataAt limit file) s
           (taken at st t (it.bytes ++ flat its) i (length it.bytes) e fits (took limit st t (it.bytes ++ flat its) i (length it.bytes) d))
-      go (some i) t d (suc (suc m)) r ih = ih (suc m) r
+      go (Some i) t d (suc (suc m)) r ih = ih (suc m) r
 
-pub data-at : (limit n : ℕ) (file : List ℕ) (its : Tree) (p : Placed) → read limit file ≡ good its → numbered n (sections 0 its) ≡ some p → DataAt limit file p
+pub data-at : (limit n : ℕ) (file : List ℕ) (its : Tree) (p : Placed) → read limit file ≡ good its → numbered n (sections 0 its) ≡ Some p → DataAt limit file p
 data-at limit n file its p e q = let a = accepted limit file its e in data-from limit file 0 its start (omega arith) (sym a.whole) a.is_good n p q
 
 -- ---- the data
@@ -141,16 +142,16 @@ binary-at limit size s d n e = go (unbind (λ s. blame 8 (literal marker s)) (λ
     go u = go₂ u (unbind (exactly size) (closed_after limit size) (drop u.first s) d u.second u.then_did)
 
 -- BASE64: as many octets as declared
-good_text_lem : (size : ℕ) (l : Letters) → good_text size l ≡ none → length (decoded (decode l.symbols)) ≡ size
+good_text_lem : (size : ℕ) (l : Letters) → good_text size l ≡ None → length (decoded (decode l.symbols)) ≡ size
 good_text_lem size l e = go (decode l.symbols) refl
   where
     go : (o : Option (List ℕ)) → decode l.symbols ≡ o → length (decoded o) ≡ size
-    go none q = absurd (some-ne-none (10, l.closing) (rw q at e))
-    go (some os) q = by (eqb (length os) size) refl
+    go None q = absurd (none-some (10, l.closing) (sym (rw q at e)))
+    go (Some os) q = by (eqb (length os) size) refl
       where
         by : (b : Bool) → eqb (length os) size ≡ b → length os ≡ size
         by true h = eqb-true (length os) size h
-        by false h = absurd (some-ne-none (10, l.closing) (rw (q, h) at e))
+        by false h = absurd (none-some (10, l.closing) (sym (rw (q, h) at e)))
 
 base64-count : (limit size : ℕ) (s : List ℕ) (d : Data) (n : ℕ) → base64_data limit size s ≡ ok d n → length d.octets ≡ size
 unfolding base64_data

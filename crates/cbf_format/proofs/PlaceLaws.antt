@@ -1,7 +1,7 @@
 -- Each refusal of reading has a number from 1 to 11, and a place inside the file; the boundary line of a section with
 -- a long name is inside it too. Assumes nothing.
 use mathlib.Core.Path.{◌≡◌, refl, ap, subst}
-use mathlib.Core.Option.{Option, none, some}
+use Rattle.std.specs.Prelude.{Option, None, Some}
 use mathlib.Core.Bool.{Bool, true, false, ◌&&◌, cond}
 use mathlib.Core.List.{List, [], ◌∷◌, ◌++◌}
 use Prim.Native.Nat.{ℕ, zero, suc, ◌+◌, ◌≤◌}
@@ -167,8 +167,8 @@ group-within m (l ∷ ls) h = go (continues l.1) (split_colon l.1) (group ls) (g
     go : (b : Bool) (o : Option (List ℕ × List ℕ)) (g : Grouped) → HeadersWithin m g.headers
         → HeadersWithin m (cond b (record { headers = g.headers; text = 32 ∷ (skip l.1 ++ g.text) }) (headed l.0 o g)).headers
     go true o g i = i
-    go false none g i = i
-    go false (some nv) g i = (h.0, i)
+    go false None g i = i
+    go false (Some nv) g i = (h.0, i)
 
 abbrev JudgedWithin : ℕ → Judged → Type 0
 JudgedWithin m (refused_at p) = p ≤ m
@@ -181,13 +181,13 @@ judge-within m (x ∷ hs) fs h = on (judge_header x (header_named known_headers 
     (header (header_named known_headers x.name)) (λ r. judge-within m hs r h.1)
   where
     value : (k : KnownHeader) (old v : Option ℕ) → JudgedWithin m (put x.at k old v fs)
-    value k (some n) v = h.0
-    value k none none = h.0
-    value k none (some n) = tt
+    value k (Some n) v = h.0
+    value k None None = h.0
+    value k None (Some n) = tt
 
     header : (o : Option KnownHeader) → JudgedWithin m (judge_header x o fs)
-    header none = tt
-    header (some k) = value k (look k fs) (value_of k x.value)
+    header None = tt
+    header (Some k) = value k (look k fs) (value_of k x.value)
 
     on : (j : Judged) → JudgedWithin m j → ((r : List (KnownHeader × ℕ)) → JudgedWithin m (judge hs r)) → JudgedWithin m (judged_on (λ r. judge hs r) j)
     on (refused_at p) l ih = l
@@ -206,10 +206,10 @@ verdict-within m hs w = go (judge (group hs.lines).headers []) (judge-within m (
     agreed d false = (refl, w.at_empty)
 
     all : (e n k : Option ℕ) (fs : List (KnownHeader × ℕ)) → VerdictWithin m (described hs.empty e n k fs)
-    all (some e) (some n) (some k) fs = agreed (description e n k fs) (agrees (description e n k fs))
-    all none n k fs = (refl, w.at_empty)
-    all (some e) none k fs = (refl, w.at_empty)
-    all (some e) (some n) none fs = (refl, w.at_empty)
+    all (Some e) (Some n) (Some k) fs = agreed (description e n k fs) (agrees (description e n k fs))
+    all None n k fs = (refl, w.at_empty)
+    all (Some e) None k fs = (refl, w.at_empty)
+    all (Some e) (Some n) None fs = (refl, w.at_empty)
 
     go : (j : Judged) → JudgedWithin m j → VerdictWithin m (verdict_of hs.empty j)
     go (refused_at p) l = (refl, l)
@@ -279,8 +279,8 @@ good_text-test : (size m : ℕ) (l : Letters) → l.closing ≤ m → Test m (go
 good_text-test size m l h = go (sized size (decode l.symbols)) refl
   where
     go : (o : Option (List ℕ)) → sized size (decode l.symbols) ≡ o → Test m (good_text size l)
-    go none q = rw q (refuses refl h)
-    go (some os) q = rw q passes
+    go None q = rw q (refuses refl h)
+    go (Some os) q = rw q passes
 
 pub base64_data-places : (limit size : ℕ) → Places (base64_data limit size)
 unfolding base64_data
@@ -336,13 +336,13 @@ step-places limit st =
     (λ tn. either (is_boundary st tn.0) tn)
   where
     after : Section → Parser (Option Section × State)
-    after i = ret (some i, after_section st)
+    after i = ret (Some i, after_section st)
 
-    either : (b : Bool) (tn : List ℕ × ℕ) → Places (section_or b (bind (section limit st.block tn.1) after) (ret (none, after_line st tn.0 tn.1)))
+    either : (b : Bool) (tn : List ℕ × ℕ) → Places (section_or b (bind (section limit st.block tn.1) after) (ret (None, after_line st tn.0 tn.1)))
     either true tn =
         bind-within (section limit st.block tn.1) after (section-tame limit st.block tn.1) (section-places limit st.block tn.1)
-        (λ i. ret-within (some i, after_section st))
-    either false tn = ret-within (none, after_line st tn.0 tn.1)
+        (λ i. ret-within (Some i, after_section st))
+    either false tn = ret-within (None, after_line st tn.0 tn.1)
 
 -- ---- reading
 
@@ -376,7 +376,7 @@ read-limit limit file k p e = go (leb (length file) file_limit) refl
 
 -- ---- the section of a long name
 
-pub long-name-from : (at : ℕ) (its : Tree) (b : ℕ) → long_name (sections at its) ≡ some b → b ≤ at + length (flat its)
+pub long-name-from : (at : ℕ) (its : Tree) (b : ℕ) → long_name (sections at its) ≡ Some b → b ≤ at + length (flat its)
 unfolding long_name sections flat
 long-name-from at [] b e = let z : ◌≡◌ {A = ℕ} 0 1 = cc in absurd (omega arith)
 long-name-from at (it ∷ its) b e = go (λ q. omega (arith, long-name-from (at + length it.bytes) its b q, length-append it.bytes (flat its))) it.info e
@@ -384,14 +384,14 @@ long-name-from at (it ∷ its) b e = go (λ q. omega (arith, long-name-from (at 
     rest : List Placed
     rest = sections (at + length it.bytes) its
 
-    go : (long_name rest ≡ some b → b ≤ at + length (it.bytes ++ flat its)) → (o : Option Section) → long_name (add_placed at o rest) ≡ some b
+    go : (long_name rest ≡ Some b → b ≤ at + length (it.bytes ++ flat its)) → (o : Option Section) → long_name (add_placed at o rest) ≡ Some b
         → b ≤ at + length (it.bytes ++ flat its)
-    go later none q = later q
-    go later (some i) q = either (leb (length i.block) label_width) q
+    go later None q = later q
+    go later (Some i) q = either (leb (length i.block) label_width) q
       where
-        either : (t : Bool) → cond t (long_name rest) (some at) ≡ some b → b ≤ at + length (it.bytes ++ flat its)
+        either : (t : Bool) → cond t (long_name rest) (Some at) ≡ Some b → b ≤ at + length (it.bytes ++ flat its)
         either true q = later q
         either false q = let p : at ≡ b = cc in omega arith
 
-pub long-name-place : (limit : ℕ) (file : List ℕ) (its : Tree) (b : ℕ) → read limit file ≡ good its → long_name (sections 0 its) ≡ some b → b ≤ length file
+pub long-name-place : (limit : ℕ) (file : List ℕ) (its : Tree) (b : ℕ) → read limit file ≡ good its → long_name (sections 0 its) ≡ Some b → b ≤ length file
 long-name-place limit file its b e q = omega (arith, long-name-from 0 its b q, ap length (accepted limit file its e).whole)

@@ -2,7 +2,8 @@
 -- replacement after another is one replacement. Assumes nothing.
 use mathlib.Core.Path.{◌≡◌, refl, sym, ap, ◌∙◌, subst}
 use mathlib.Core.Logic.{◌≢◌}
-use mathlib.Core.Option.{Option, none, some, none-ne-some}
+use Rattle.std.specs.Prelude.{Option, None, Some}
+use Rattle.std.proofs.lemmas.Option.{none-some}
 use mathlib.Core.Bool.{Bool, true, false, cond}
 use mathlib.Core.List.{List, [], ◌∷◌}
 use Prim.Native.Nat.{ℕ, zero, suc, ◌+◌, ◌-◌, ◌≤◌, ◌<◌}
@@ -39,13 +40,13 @@ use Rattle.cbf_format.proofs.HouseSections.{housed_section, Fits, house-lawful}
 
 -- a section that is there, at a place
 abbrev placed : ℕ → Option Section → Option Placed
-placed at none = none
-placed at (some i) = some (record { boundary = at; section = i })
+placed at None = None
+placed at (Some i) = Some (record { boundary = at; section = i })
 
-unplaced : (at : ℕ) (o : Option Section) (p : Placed) → placed at o ≡ some p → (o ≡ some p.section) × (at ≡ p.boundary)
-unplaced at none p e = absurd (none-ne-some p e)
-unplaced at (some i) p e = let q : record { boundary = at; section = i }
-    ≡ p = cc in (ap (λ (z : Placed). some z.section) q, ap (λ (z : Placed). z.boundary) q)
+unplaced : (at : ℕ) (o : Option Section) (p : Placed) → placed at o ≡ Some p → (o ≡ Some p.section) × (at ≡ p.boundary)
+unplaced at None p e = absurd (none-some p e)
+unplaced at (Some i) p e = let q : record { boundary = at; section = i }
+    ≡ p = cc in (ap (λ (z : Placed). Some z.section) q, ap (λ (z : Placed). z.boundary) q)
 
 numbered-placed : (its : Tree) (at n : ℕ) → numbered (suc n) (sections at its) ≡ placed (at + start_of n its) (nth n its)
 unfolding nth start_of sections numbered
@@ -58,7 +59,7 @@ numbered-placed = by-items P (λ at n. refl) plain go
     plain it its ih at n = ih (at + length it.bytes) n ∙ ap (λ (k : ℕ). placed k (nth n its)) (add_assoc at (length it.bytes) (start_of n its))
 
     go : Sectional P
-    go it a its ih at zero = ap (λ (k : ℕ). placed k (some a)) (sym (add-zero at))
+    go it a its ih at zero = ap (λ (k : ℕ). placed k (Some a)) (sym (add-zero at))
     go it a its ih at (suc n) = plain it its ih at n
 
 numbered_is : (n : ℕ) (its : Tree) → numbered (suc n) (sections 0 its) ≡ placed (start_of n its) (nth n its)
@@ -66,19 +67,19 @@ numbered_is n its = numbered-placed its 0 n ∙ ap (λ (k : ℕ). placed k (nth 
 
 -- section n of a tree, from 0, and its place
 abbrev pub IsAt : ℕ → Tree → Placed → Type 0
-IsAt n its p = (nth n its ≡ some p.section) × (start_of n its ≡ p.boundary)
+IsAt n its p = (nth n its ≡ Some p.section) × (start_of n its ≡ p.boundary)
 
-pub numbered-nth : (n : ℕ) (its : Tree) (p : Placed) → numbered (suc n) (sections 0 its) ≡ some p → IsAt n its p
+pub numbered-nth : (n : ℕ) (its : Tree) (p : Placed) → numbered (suc n) (sections 0 its) ≡ Some p → IsAt n its p
 numbered-nth n its p e = unplaced (start_of n its) (nth n its) p (sym (numbered_is n its) ∙ e)
 
-pub nth-numbered : (n : ℕ) (its : Tree) (i : Section) → nth n its ≡ some i → numbered (suc n) (sections 0 its)
-    ≡ some (record { boundary = start_of n its; section = i })
+pub nth-numbered : (n : ℕ) (its : Tree) (i : Section) → nth n its ≡ Some i → numbered (suc n) (sections 0 its)
+    ≡ Some (record { boundary = start_of n its; section = i })
 nth-numbered n its i e = numbered_is n its ∙ ap (placed (start_of n its)) e
 
 -- there is no section 0
-no_zero : {A : Type 0} (its : Tree) (p : Placed) → numbered 0 (sections 0 its) ≡ some p → A
+no_zero : {A : Type 0} (its : Tree) (p : Placed) → numbered 0 (sections 0 its) ≡ Some p → A
 unfolding numbered
-no_zero its p e = absurd (none-ne-some p e)
+no_zero its p e = absurd (none-some p e)
 
 -- the span of a section of an accepted file, and what its headers say
 pub record SpanAt (file : List ℕ) (p : Placed) : Type 0 where
@@ -86,7 +87,7 @@ pub record SpanAt (file : List ℕ) (p : Placed) : Type 0 where
   pub short : length file ≤ file_limit
   pub is_known : Known p.section.description
 
-pub span-at : (limit n : ℕ) (file : List ℕ) (its : Tree) (p : Placed) → read limit file ≡ good its → numbered n (sections 0 its) ≡ some p → SpanAt file p
+pub span-at : (limit n : ℕ) (file : List ℕ) (its : Tree) (p : Placed) → read limit file ≡ good its → numbered n (sections 0 its) ≡ Some p → SpanAt file p
 span-at limit zero file its p r e = no_zero its p e
 span-at limit (suc n) file its p r e =
     let a = accepted limit file its r in
@@ -119,8 +120,8 @@ abbrev in_form : List ℕ → Section → List ℕ × Section
 in_form os i = (house i.description os, housed_section os i)
 
 abbrev housed_or : Section → Option (List ℕ) → Chosen Section
-housed_or i none = none
-housed_or i (some os) = some (in_form os i)
+housed_or i None = None
+housed_or i (Some os) = Some (in_form os i)
 
 abbrev choice : NewOctets → Choice Section
 choice f n i = housed_or i (f n)
@@ -140,21 +141,21 @@ house-again os os' i = refl
 
 module _ (f : NewOctets) where
   -- the section that is chosen is in house form
-  form : (n : ℕ) (i : Section) (wv : List ℕ × Section) → choice f n i ≡ some wv
-      → (os : List ℕ) × (f n ≡ some os) × (in_form os i ≡ wv)
+  form : (n : ℕ) (i : Section) (wv : List ℕ × Section) → choice f n i ≡ Some wv
+      → (os : List ℕ) × (f n ≡ Some os) × (in_form os i ≡ wv)
   form n i wv e = go (f n) refl e
     where
-      go : (o : Option (List ℕ)) → f n ≡ o → housed_or i o ≡ some wv
-          → (os : List ℕ) × (f n ≡ some os) × (in_form os i ≡ wv)
-      go none q e = absurd (none-ne-some wv e)
-      go (some os) q e = (os, q, cc)
+      go : (o : Option (List ℕ)) → f n ≡ o → housed_or i o ≡ Some wv
+          → (os : List ℕ) × (f n ≡ Some os) × (in_form os i ≡ wv)
+      go None q e = absurd (none-some wv e)
+      go (Some os) q e = (os, q, cc)
 
-  again : (n : ℕ) (i : Section) (wv : List ℕ × Section) → choice f n i ≡ some wv
-      → (width wv.1 ≡ length wv.0) × (choice f n wv.1 ≡ some wv)
+  again : (n : ℕ) (i : Section) (wv : List ℕ × Section) → choice f n i ≡ Some wv
+      → (width wv.1 ≡ length wv.0) × (choice f n wv.1 ≡ Some wv)
   again n i wv e =
       let u = form n i wv e in
-      subst (λ (y : List ℕ × Section). (width y.1 ≡ length y.0) × (choice f n y.1 ≡ some y)) u.2
-      (refl, ap (housed_or (housed_section u.0 i)) u.1 ∙ ap some (house-again u.0 u.0 i))
+      subst (λ (y : List ℕ × Section). (width y.1 ≡ length y.0) × (choice f n y.1 ≡ Some y)) u.2
+      (refl, ap (housed_or (housed_section u.0 i)) u.1 ∙ ap Some (house-again u.0 u.0 i))
 
   -- the spans that are exchanged are those that are chosen
   abbrev SpansChosen : Tree → Type 0
@@ -171,12 +172,12 @@ module _ (f : NewOctets) where
           p = record { boundary = at; section = a }
 
           by : (o : Option (List ℕ)) (xs : List Exchange) → add_exchange p o xs ≡ span_or width (housed_or a o) at a xs
-          by none xs = refl
-          by (some os) xs = refl
+          by None xs = refl
+          by (Some os) xs = refl
 
 -- the new octets fit their sections
 abbrev pub AllFit : Tree → NewOctets → Type 0
-AllFit its f = (n : ℕ) (p : Placed) (os : List ℕ) → numbered n (sections 0 its) ≡ some p → f n ≡ some os
+AllFit its f = (n : ℕ) (p : Placed) (os : List ℕ) → numbered n (sections 0 its) ≡ Some p → f n ≡ Some os
     → Fits p.section.description os
 
 -- ---- the file
@@ -203,15 +204,15 @@ module _ (limit : ℕ) (file : List ℕ) (its : Tree) (reads : read limit file �
       (rewrite-outside width (choice f) (again f) its 1 (accepted-spans limit file its a))
 
   -- each section keeps its number
-  pub section-then : (n : ℕ) (p : Placed) → numbered n (sections 0 its) ≡ some p
-      → (q : Placed) × (numbered n (sections 0 (replaced_tree f its)) ≡ some q)
+  pub section-then : (n : ℕ) (p : Placed) → numbered n (sections 0 its) ≡ Some p
+      → (q : Placed) × (numbered n (sections 0 (replaced_tree f its)) ≡ Some q)
       × (q.section ≡ section_then (f n) p.section)
   section-then zero p e = no_zero its p e
   section-then (suc n) p e =
       let tree = replaced_tree f its in
       let i = section_then (f (suc n)) p.section in
       let z : 1 + n ≡ suc n = omega arith in
-      let there : nth n tree ≡ some i =
+      let there : nth n tree ≡ Some i =
       nth-rewrite width (choice f) its 1 n ∙ (λ k. info_then (choice f) (z k) ((numbered-nth n its p e).0 k)) in
       (record { boundary = start_of n tree; section = i }, nth-numbered n tree i there, refl)
 
@@ -239,7 +240,7 @@ module _ (limit : ℕ) (file : List ℕ) (its : Tree) (reads : read limit file �
       where
         some_byte : (s t : List ℕ) → hd s ≡ hd t → 0 < length t → 0 < length s
         some_byte s [] e h = absurd (not-suc-le-zero h)
-        some_byte [] (y ∷ t) e h = absurd (none-ne-some y e)
+        some_byte [] (y ∷ t) e h = absurd (none-some y e)
         some_byte (x ∷ s) (y ∷ t) e h = omega arith
 
 -- ---- one replacement after another
@@ -248,14 +249,14 @@ then-later : (f g : NewOctets) (n : ℕ) (i : Section) → and_then (choice f) (
 then-later f g n i = go (f n) (g n) refl
   where
     go : (x y : Option (List ℕ)) → g n ≡ y → after_or (choice g) n i (housed_or i x) ≡ housed_or i (later_or x y)
-    go none none q = ap (housed_or i) q
-    go none (some os) q = ap (housed_or i) q
-    go (some os) y q = ap (λ (o : Option (List ℕ)). then_or (in_form os i) (housed_or (housed_section os i) o)) q ∙ by y
+    go None None q = ap (housed_or i) q
+    go None (Some os) q = ap (housed_or i) q
+    go (Some os) y q = ap (λ (o : Option (List ℕ)). then_or (in_form os i) (housed_or (housed_section os i) o)) q ∙ by y
       where
         by : (y : Option (List ℕ))
-            → then_or (in_form os i) (housed_or (housed_section os i) y) ≡ housed_or i (later_or (some os) y)
-        by none = refl
-        by (some os') = ap some (house-again os os' i)
+            → then_or (in_form os i) (housed_or (housed_section os i) y) ≡ housed_or i (later_or (Some os) y)
+        by None = refl
+        by (Some os') = ap Some (house-again os os' i)
 
 -- is one replacement, in which the later octets of a section count
 pub tree-later : (f g : NewOctets) (its : Tree) → replaced_tree g (replaced_tree f its) ≡ replaced_tree (later f g) its
@@ -289,17 +290,17 @@ replaced-same file ps f g h = λ k. exchanged 0 (exchanges-same f g 1 ps (λ m l
 
 module _ (f : NewOctets) where
   -- none of these sections has new octets
-  pub exchanges-none : (ps : List Placed) (n : ℕ) → ((k : ℕ) → n ≤ k → f k ≡ none) → exchanges f n ps ≡ []
+  pub exchanges-none : (ps : List Placed) (n : ℕ) → ((k : ℕ) → n ≤ k → f k ≡ None) → exchanges f n ps ≡ []
   unfolding exchanges
   exchanges-none [] n h = refl
   exchanges-none (p ∷ ps) n h = rw (h n (omega arith)) (exchanges-none ps (suc n) (λ k l. h k (omega arith)))
 
   -- the first one that has
-  exchanges-first : (ps : List Placed) (n m : ℕ) (p : Placed) (os : List ℕ) → ((k : ℕ) → n ≤ k → k < n + m → f k ≡ none)
-      → f (n + m) ≡ some os → numbered (suc m) ps ≡ some p
+  exchanges-first : (ps : List Placed) (n m : ℕ) (p : Placed) (os : List ℕ) → ((k : ℕ) → n ≤ k → k < n + m → f k ≡ None)
+      → f (n + m) ≡ Some os → numbered (suc m) ps ≡ Some p
       → exchanges f n ps ≡ in_house p os ∷ exchanges f (suc (n + m)) (drop (suc m) ps)
   unfolding exchanges numbered
-  exchanges-first [] n m p os h e q = absurd (none-ne-some p q)
+  exchanges-first [] n m p os h e q = absurd (none-some p q)
   exchanges-first (x ∷ ps) n zero p os h e q =
       let z : n + 0 ≡ n = omega arith in
       let y : x ≡ p = cc in
@@ -318,51 +319,51 @@ numbered-drop (suc m) k (p ∷ ps) =
     let z : suc (m + k) ≡ suc m + k = omega arith in
     numbered-drop m k ps ∙ ap (λ (j : ℕ). numbered (suc j) (p ∷ ps)) z
 
-only_same : (n : ℕ) (os : List ℕ) → only n os n ≡ some os
+only_same : (n : ℕ) (os : List ℕ) → only n os n ≡ Some os
 only_same n os = rw (eq-eqb n n refl)
 
-pub only-other : (n m : ℕ) (os : List ℕ) → m ≢ n → only n os m ≡ none
+pub only-other : (n m : ℕ) (os : List ℕ) → m ≢ n → only n os m ≡ None
 only-other n m os h = rw (ne_eqb m n h)
 
 -- replacing one section is the choice of one
-pub replaced-one : (file : List ℕ) (ps : List Placed) (n : ℕ) (p : Placed) (os : List ℕ) → numbered n ps ≡ some p
+pub replaced-one : (file : List ℕ) (ps : List Placed) (n : ℕ) (p : Placed) (os : List ℕ) → numbered n ps ≡ Some p
     → replaced_sections file ps (only n os) ≡ replaced_file file p os
 unfolding numbered replaced_sections replaced_file
-replaced-one file ps zero p os e = absurd (none-ne-some p e)
+replaced-one file ps zero p os e = absurd (none-some p e)
 replaced-one file ps (suc n) p os e =
     let z : suc n ≡ 1 + n = omega arith in
     let f = only (suc n) os in
-    let other : (k : ℕ) → k ≢ suc n → f k ≡ none = λ k. only-other (suc n) k os in
+    let other : (k : ℕ) → k ≢ suc n → f k ≡ None = λ k. only-other (suc n) k os in
     let None-more = exchanges-none f (drop (suc n) ps) (suc (1 + n)) (λ k l. other k (λ q. omega arith)) in
     ap (λ (xs : List Exchange). exchanged 0 xs file)
     (exchanges-first f ps 1 n p os (λ k l h. other k (λ q. omega arith)) (sym (ap f z) ∙ only_same (suc n) os) e
     ∙ ap (λ (xs : List Exchange). in_house p os ∷ xs) None-more)
 
 -- new octets fit where they fit one by one
-pub fit-only : (its : Tree) (n : ℕ) {p : Placed} {os : List ℕ} → numbered n (sections 0 its) ≡ some p
+pub fit-only : (its : Tree) (n : ℕ) {p : Placed} {os : List ℕ} → numbered n (sections 0 its) ≡ Some p
     → Fits p.section.description os → AllFit its (only n os)
 fit-only its n {p} {os} e f m q os' e' h = go (eqb m n) refl h
   where
-    go : (b : Bool) → eqb m n ≡ b → cond b (some os) none ≡ some os' → Fits q.section.description os'
+    go : (b : Bool) → eqb m n ≡ b → cond b (Some os) None ≡ Some os' → Fits q.section.description os'
     go true r h =
         let x : os ≡ os' = cc in
-        let y : some p ≡ some q = sym e ∙ ap (λ (k : ℕ). numbered k (sections 0 its)) (sym (eqb-true m n r)) ∙ e' in
+        let y : Some p ≡ Some q = sym e ∙ ap (λ (k : ℕ). numbered k (sections 0 its)) (sym (eqb-true m n r)) ∙ e' in
         let z : p ≡ q = cc in
         coe 0 1 (k. Fits (z k).section.description (x k)) f
-    go false r h = absurd (none-ne-some os' h)
+    go false r h = absurd (none-some os' h)
 
 pub fit-later : (its : Tree) (f g : NewOctets) → AllFit its f → AllFit its g → AllFit its (later f g)
 fit-later its f g a b n p os e h = go (f n) (g n) refl refl h
   where
-    go : (x y : Option (List ℕ)) → f n ≡ x → g n ≡ y → later_or x y ≡ some os → Fits p.section.description os
-    go x none q r h = a n p os e (q ∙ h)
-    go x (some os') q r h = b n p os e (r ∙ h)
+    go : (x y : Option (List ℕ)) → f n ≡ x → g n ≡ y → later_or x y ≡ Some os → Fits p.section.description os
+    go x None q r h = a n p os e (q ∙ h)
+    go x (Some os') q r h = b n p os e (r ∙ h)
 
 -- the choice of two
 pub record Two (f : NewOctets) (i : ℕ) (os : List ℕ) (j : ℕ) (os' : List ℕ) : Type 0 where
-  pub first : f i ≡ some os
-  pub second : f j ≡ some os'
-  pub others : (k : ℕ) → k ≢ i → k ≢ j → f k ≡ none
+  pub first : f i ≡ Some os
+  pub second : f j ≡ Some os'
+  pub others : (k : ℕ) → k ≢ i → k ≢ j → f k ≡ None
 
 module _ (i j : ℕ) (os os' : List ℕ) (differ : i ≢ j) where
   pub is-two : Two (later (only i os) (only j os')) i os j os'
@@ -376,8 +377,8 @@ module _ (i j : ℕ) (os os' : List ℕ) (differ : i ≢ j) where
   pub both_ways : (n : ℕ) → later (only i os) (only j os') n ≡ later (only j os') (only i os) n
   both_ways n = go (eqb n i) (eqb n j) refl refl
     where
-      go : (b c : Bool) → eqb n i ≡ b → eqb n j ≡ c → let x = cond b (some os) none in
-          let y = cond c (some os') none in later_or x y ≡ later_or y x
+      go : (b c : Bool) → eqb n i ≡ b → eqb n j ≡ c → let x = cond b (Some os) None in
+          let y = cond c (Some os') None in later_or x y ≡ later_or y x
       go true true q r = absurd (differ (sym (eqb-true n i q) ∙ eqb-true n j r))
       go true false q r = refl
       go false true q r = refl
@@ -388,11 +389,11 @@ two-swapped t = record { first = t.second; second = t.first; others = λ k a b. 
 
 -- the spans of the two, in the order of their numbers
 exchanges-two : (f : NewOctets) (ps : List Placed) (i j : ℕ) (p q : Placed) (os os' : List ℕ) → i < j
-    → Two f i os j os' → numbered i ps ≡ some p → numbered j ps ≡ some q
+    → Two f i os j os' → numbered i ps ≡ Some p → numbered j ps ≡ Some q
     → exchanges f 1 ps ≡ in_house p os ∷ in_house q os' ∷ []
 unfolding numbered
-exchanges-two f ps zero j p q os os' l t e e' = absurd (none-ne-some p e)
-exchanges-two f ps (suc i) zero p q os os' l t e e' = absurd (none-ne-some q e')
+exchanges-two f ps zero j p q os os' l t e e' = absurd (none-some p e)
+exchanges-two f ps (suc i) zero p q os os' l t e e' = absurd (none-some q e')
 exchanges-two f ps (suc i) (suc j) p q os os' l t e e' =
     let y : 1 + i ≡ suc i = omega arith in
     let m = j - suc i in
@@ -411,8 +412,8 @@ exchanges-two f ps (suc i) (suc j) p q os os' l t e e' =
 -- and what stands outside them, in the file and in the new one, where they are p' and q'
 module _ (limit : ℕ) (file : List ℕ) (its : Tree) (reads : read limit file ≡ good its) (f : NewOctets) (i j : ℕ)
     (os os' : List ℕ) (below : i < j) (two : Two f i os j os') where
-  pub two-outside : (p q p' q' : Placed) → numbered i (sections 0 its) ≡ some p → numbered j (sections 0 its) ≡ some q
-      → numbered i (sections 0 (replaced_tree f its)) ≡ some p' → numbered j (sections 0 (replaced_tree f its)) ≡ some q'
+  pub two-outside : (p q p' q' : Placed) → numbered i (sections 0 its) ≡ Some p → numbered j (sections 0 its) ≡ Some q
+      → numbered i (sections 0 (replaced_tree f its)) ≡ Some p' → numbered j (sections 0 (replaced_tree f its)) ≡ Some q'
       → SameOutside file (replaced_sections file (sections 0 its) f) 0 (in_house p os ∷ in_house q os' ∷ [])
       0 (in_house p' os ∷ in_house q' os' ∷ [])
   two-outside p q p' q' e e' n n' =

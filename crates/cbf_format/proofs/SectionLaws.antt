@@ -1,6 +1,6 @@
 -- What a section that was read says: its parts, and what follows its span. Assumes nothing.
 use mathlib.Core.Path.{◌≡◌, refl, sym, ap, ◌∙◌, subst}
-use mathlib.Core.Option.{none, some}
+use Rattle.std.specs.Prelude.{None, Some}
 use mathlib.Core.Bool.{Bool, true, false, cond}
 use mathlib.Core.List.{List, [], ◌∷◌}
 use Prim.Native.Nat.{ℕ, zero, suc, ◌+◌, ◌≤◌}
@@ -75,7 +75,7 @@ pub record DataSays (limit : ℕ) (s : List ℕ) (d : Data) (n : ℕ) : Type 0 w
 
 pub word_count : (w s t : List ℕ) (n : ℕ) → literal w s ≡ ok t n → n ≡ length w
 unfolding literal
-word_count w s t n e = (unoctets (length w) s t n (unscreen (λ t. cond (same t w) none (some (9, 0))) (exactly (length w) s) t n e).0).2
+word_count w s t n e = (unoctets (length w) s t n (unscreen (λ t. cond (same t w) None (Some (9, 0))) (exactly (length w) s) t n e).0).2
 
 binary-says : (limit size : ℕ) (s : List ℕ) (d : Data) (n : ℕ) → binary_data limit size s ≡ ok d n → DataSays limit s d n
 unfolding binary_data
@@ -245,7 +245,7 @@ base64-says limit size s d n e = go (unbind (text limit size) (after_text limit)
         let end : d.width + c.0 ≡ u.first = omega (arith, at, c.1, i.sum) in
         let here : line (drop d.width s) ≡ ok [] c.0 = ap line (sym (drop-drop (length closing) i.before s ∙ ap (λ (z : ℕ). drop z s) at)) ∙ c.2 in
         let on : drop c.0 (drop d.width s) ≡ drop u.first s = drop-drop c.0 d.width s ∙ ap (λ (z : ℕ). drop z s) end in
-        let some : 1 ≤ c.0 = some_end limit (drop d.width s) c.0 v.val v.first here (ap (semicolon_line limit) on ∙ v.did) in
+        let Some : 1 ≤ c.0 = some_end limit (drop d.width s) c.0 v.val v.first here (ap (semicolon_line limit) on ∙ v.did) in
         record {
           lead = omega (arith, l);
           closes = record {
@@ -253,7 +253,7 @@ base64-says limit size s d n e = go (unbind (text limit size) (after_text limit)
             tail = v.val;
             sum = omega (arith, z, end, u.sum, v.sum);
             closes = after_span-ok limit (drop d.width s) (drop u.first s) c.0 v.val v.first
-                (line_end-ok (drop d.width s) c.0 some here) on v.did;
+                (line_end-ok (drop d.width s) c.0 Some here) on v.did;
           };
         }
 

@@ -1,7 +1,8 @@
 -- What a description that a section's headers gave is: each number within its bounds, and the counts agree. Assumes
 -- nothing.
 use mathlib.Core.Path.{◌≡◌, refl, sym, ap, ◌∙◌, subst}
-use mathlib.Core.Option.{Option, none, some, none-ne-some}
+use Rattle.std.specs.Prelude.{Option, None, Some}
+use Rattle.std.proofs.lemmas.Option.{none-some}
 use mathlib.Core.Bool.{Bool, true, false, ◌&&◌, cond}
 use mathlib.Core.List.{List, [], ◌∷◌}
 use Prim.Native.Nat.{ℕ, ◌≤◌}
@@ -46,7 +47,7 @@ same-header j k e = sym (back j) ∙ ap at (eqb-true (ordinal j) (ordinal k) e) 
 
 -- each number that was found is the value of its header
 abbrev Valued : List (KnownHeader × ℕ) → Type 0
-Valued fs = (k : KnownHeader) (n : ℕ) → look k fs ≡ some n → (v : List ℕ) × (value_of k v ≡ some n)
+Valued fs = (k : KnownHeader) (n : ℕ) → look k fs ≡ Some n → (v : List ℕ) × (value_of k v ≡ Some n)
 
 abbrev JudgedValued : Judged → Type 0
 JudgedValued (refused_at p) = Unit {0}
@@ -59,31 +60,31 @@ judge-valued (h ∷ hs) fs w = on (judge_header h (header_named known_headers h.
     (header (header_named known_headers h.name)) (λ r w. judge-valued hs r w)
   where
     value : (k : KnownHeader) (old v : Option ℕ) → value_of k h.value ≡ v → JudgedValued (put h.at k old v fs)
-    value k (some n) v q = tt
-    value k none none q = tt
-    value k none (some n) q = λ j m e. by j m (same_header j k) refl e
+    value k (Some n) v q = tt
+    value k None None q = tt
+    value k None (Some n) q = λ j m e. by j m (same_header j k) refl e
       where
-        by : (j : KnownHeader) (m : ℕ) (b : Bool) → same_header j k ≡ b → cond b (some n) (look j fs) ≡ some m → (v : List ℕ) × (value_of j v ≡ some m)
+        by : (j : KnownHeader) (m : ℕ) (b : Bool) → same_header j k ≡ b → cond b (Some n) (look j fs) ≡ Some m → (v : List ℕ) × (value_of j v ≡ Some m)
         by j m true p e = (h.value, ap (λ (z : KnownHeader). value_of z h.value) (same-header j k p) ∙ q ∙ e)
         by j m false p e = w j m e
 
     header : (o : Option KnownHeader) → JudgedValued (judge_header h o fs)
-    header none = w
-    header (some k) = value k (look k fs) (value_of k h.value) refl
+    header None = w
+    header (Some k) = value k (look k fs) (value_of k h.value) refl
 
     on : (j : Judged) → JudgedValued j → ((r : List (KnownHeader × ℕ)) → Valued r → JudgedValued (judge hs r)) → JudgedValued (judged_on (λ r. judge hs r) j)
     on (refused_at p) v ih = tt
     on (found r) v ih = ih r v
 
-between-most : (least most : ℕ) (o : Option ℕ) (n : ℕ) → between least most o ≡ some n → n ≤ most
-between-most least most none n e = absurd (none-ne-some n e)
-between-most least most (some m) n e = go (leb least m && leb m most) refl e
+between-most : (least most : ℕ) (o : Option ℕ) (n : ℕ) → between least most o ≡ Some n → n ≤ most
+between-most least most None n e = absurd (none-some n e)
+between-most least most (Some m) n e = go (leb least m && leb m most) refl e
   where
-    go : (b : Bool) → leb least m && leb m most ≡ b → cond b (some m) none ≡ some n → n ≤ most
+    go : (b : Bool) → leb least m && leb m most ≡ b → cond b (Some m) None ≡ Some n → n ≤ most
     go true q h =
         let p : m ≡ n = cc in
         omega (arith, leb-true m most (and-true (leb least m) (leb m most) q).1)
-    go false q h = absurd (none-ne-some n h)
+    go false q h = absurd (none-some n h)
 
 -- a description that the headers may give
 pub record Known (d : Description) : Type 0 where
@@ -101,7 +102,7 @@ Sound (describes d) = Known d × (size_agrees d.compression d.kind d.size d.elem
 
 verdict-sound : (hs : HeaderLines) → Sound (verdict hs)
 unfolding verdict
-verdict-sound hs = go (judge (group hs.lines).headers []) (judge-valued (group hs.lines).headers [] (λ k n e. absurd (none-ne-some n e)))
+verdict-sound hs = go (judge (group hs.lines).headers []) (judge-valued (group hs.lines).headers [] (λ k n e. absurd (none-some n e)))
   where
     -- a number that was found is at most its header's bound, and so is 0
     bounds : (fs : List (KnownHeader × ℕ)) → Valued fs → (k : KnownHeader) (least most : ℕ)
@@ -110,11 +111,11 @@ verdict-sound hs = go (judge (group hs.lines).headers []) (judge-valued (group h
     bounds fs w k least most b = go (look k fs) refl
       where
         go : (o : Option ℕ) → look k fs ≡ o → or_zero o ≤ most
-        go none q = omega arith
-        go (some n) q = let v = w k n q in between-most least most (decimal_number v.0) n (sym (b v.0) ∙ v.1)
+        go None q = omega arith
+        go (Some n) q = let v = w k n q in between-most least most (decimal_number v.0) n (sym (b v.0) ∙ v.1)
 
-    agreed : (e n k : ℕ) (fs : List (KnownHeader × ℕ)) (b : Bool) → agrees (description e n k fs) ≡ b → look Size fs ≡ some n
-        → look Elements fs ≡ some k → Valued fs
+    agreed : (e n k : ℕ) (fs : List (KnownHeader × ℕ)) (b : Bool) → agrees (description e n k fs) ≡ b → look Size fs ≡ Some n
+        → look Elements fs ≡ Some k → Valued fs
         → Sound (cond b (describes (description e n k fs)) (headers_refused 7 hs.empty))
     agreed e n k fs true q g h w =
         let d = description e n k fs in
@@ -135,10 +136,10 @@ verdict-sound hs = go (judge (group hs.lines).headers []) (judge-valued (group h
 
     all : (e n k : Option ℕ) (fs : List (KnownHeader × ℕ)) → look Size fs ≡ n → look Elements fs ≡ k → Valued fs
         → Sound (described hs.empty e n k fs)
-    all (some e) (some n) (some k) fs p q w = agreed e n k fs (agrees (description e n k fs)) refl p q w
-    all none n k fs p q w = tt
-    all (some e) none k fs p q w = tt
-    all (some e) (some n) none fs p q w = tt
+    all (Some e) (Some n) (Some k) fs p q w = agreed e n k fs (agrees (description e n k fs)) refl p q w
+    all None n k fs p q w = tt
+    all (Some e) None k fs p q w = tt
+    all (Some e) (Some n) None fs p q w = tt
 
     go : (j : Judged) → JudgedValued j → Sound (verdict_of hs.empty j)
     go (refused_at p) w = tt

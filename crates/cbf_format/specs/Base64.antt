@@ -1,5 +1,5 @@
 -- BASE64 text. Document 01, "The octets and their end".
-use Rattle.std.proofs.Math.Option.{Option, none, some}
+use Rattle.std.specs.Prelude.{Option, None, Some}
 use Rattle.std.specs.Prelude.{Bool, true, false, ◌&&◌, cond, List, [], ◌∷◌, ◌++◌, ℕ, zero, suc, ◌+◌, ◌*◌, ◌-◌, ◌/◌, ◌%◌, leb, ltb, eqb, length}
 use Rattle.cbf_walk.specs.Parsers.{cut, Parser, ret, bind, counted, screen, onward}
 use Rattle.cbf_format.specs.declared.Symbol.{Symbol}
@@ -26,9 +26,9 @@ is_other Other = true
 
 -- "A byte that is not a letter, `=` or blank is 10 at that byte, after 3 and 2 there"
 abbrev pub refused_symbol : ℕ → ℕ → List ℕ → Option (ℕ × ℕ)
-refused_symbol limit i [] = none
+refused_symbol limit i [] = None
 refused_symbol limit i (x ∷ t) =
-    cond (textual x) (cond (ltb i limit) (cond (is_other (symbol x)) (some (10, i)) (refused_symbol limit (suc i) t)) (some (2, i))) (some (3, i))
+    cond (textual x) (cond (ltb i limit) (cond (is_other (symbol x)) (Some (10, i)) (refused_symbol limit (suc i) t)) (Some (2, i))) (Some (3, i))
 
 -- the letters and pads of a text, and the place of the closing line after it
 pub record Letters : Type 0 where
@@ -47,7 +47,7 @@ add_symbols (x ∷ t) l = add_symbol (symbol x) (add_symbols t l)
 
 -- "text lines until that closing line": `boundary` is it
 abbrev pub refused_text : ℕ → List ℕ → List ℕ → Option (ℕ × ℕ)
-refused_text limit boundary t = cond (same t boundary) none (refused_symbol limit 0 t)
+refused_text limit boundary t = cond (same t boundary) None (refused_symbol limit 0 t)
 
 abbrev pub more_text : Bool → (ℕ → Parser Letters) → ℕ → (List ℕ × ℕ) → Parser Letters
 more_text true go at tn = ret (record { symbols = []; closing = at })
@@ -64,18 +64,18 @@ letters limit boundary (suc f) at s =
 -- ---- "groups of four, `=` only as one or two at the very end, unused bits zero"
 
 abbrev pub add_octets : List ℕ → Option (List ℕ) → Option (List ℕ)
-add_octets xs none = none
-add_octets xs (some os) = some (xs ++ os)
+add_octets xs None = None
+add_octets xs (Some os) = Some (xs ++ os)
 
 abbrev pub last_group : Bool → List ℕ → Option (List ℕ)
-last_group true xs = some xs
-last_group false xs = none
+last_group true xs = Some xs
+last_group false xs = None
 
 abbrev pub six : Symbol → Option ℕ
-six (Letter n) = some n
-six Pad = none
-six Blank = none
-six Other = none
+six (Letter n) = Some n
+six Pad = None
+six Blank = None
+six Other = None
 
 abbrev pub is_pad : Symbol → Bool
 is_pad (Letter n) = false
@@ -86,12 +86,12 @@ is_pad Other = false
 -- a group by its six-bit numbers; whether its third and fourth symbols are pads; whether it is the last; and what
 -- follows it
 abbrev pub from_group : Option ℕ → Option ℕ → Option ℕ → Option ℕ → Bool → Bool → Bool → Option (List ℕ) → Option (List ℕ)
-from_group (some a) (some b) (some c) (some d) p q last r = add_octets ((a * 4 + b / 16) ∷ (b % 16 * 16 + c / 4) ∷ (c % 4 * 64 + d) ∷ []) r
-from_group (some a) (some b) (some c) none p q last r = last_group (q && (last && eqb (c % 4) 0)) ((a * 4 + b / 16) ∷ (b % 16 * 16 + c / 4) ∷ [])
-from_group (some a) (some b) none none p q last r = last_group ((p && q) && (last && eqb (b % 16) 0)) ((a * 4 + b / 16) ∷ [])
-from_group (some a) (some b) none (some d) p q last r = none
-from_group (some a) none c d p q last r = none
-from_group none b c d p q last r = none
+from_group (Some a) (Some b) (Some c) (Some d) p q last r = add_octets ((a * 4 + b / 16) ∷ (b % 16 * 16 + c / 4) ∷ (c % 4 * 64 + d) ∷ []) r
+from_group (Some a) (Some b) (Some c) None p q last r = last_group (q && (last && eqb (c % 4) 0)) ((a * 4 + b / 16) ∷ (b % 16 * 16 + c / 4) ∷ [])
+from_group (Some a) (Some b) None None p q last r = last_group ((p && q) && (last && eqb (b % 16) 0)) ((a * 4 + b / 16) ∷ [])
+from_group (Some a) (Some b) None (Some d) p q last r = None
+from_group (Some a) None c d p q last r = None
+from_group None b c d p q last r = None
 
 abbrev pub is_empty : List Symbol → Bool
 is_empty [] = true
@@ -100,13 +100,13 @@ is_empty (x ∷ l) = false
 -- What this and from_group are is said by two laws in proofs/Base64Laws: octets are read from what they are written as
 -- (`written` in Base64Text; decode-written), and from nothing else (decode-only).
 unfoldable pub decode : List Symbol → Option (List ℕ)
-decode [] = some []
-decode (a ∷ []) = none
-decode (a ∷ b ∷ []) = none
-decode (a ∷ b ∷ c ∷ []) = none
+decode [] = Some []
+decode (a ∷ []) = None
+decode (a ∷ b ∷ []) = None
+decode (a ∷ b ∷ c ∷ []) = None
 decode (a ∷ b ∷ c ∷ d ∷ l) = let r = decode l in from_group (six a) (six b) (six c) (six d) (is_pad c) (is_pad d) (is_empty l) r
 
 -- "octet count as declared"
 abbrev pub sized : ℕ → Option (List ℕ) → Option (List ℕ)
-sized size none = none
-sized size (some os) = cond (eqb (length os) size) (some os) none
+sized size None = None
+sized size (Some os) = cond (eqb (length os) size) (Some os) None

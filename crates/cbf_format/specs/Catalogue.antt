@@ -1,11 +1,10 @@
 -- The catalogue of a file. Document 01, "House form, catalogue, listing".
-use Rattle.std.proofs.Math.Option.{Option, none, some}
+use Rattle.std.specs.Prelude.{Option, None, Some}
 use Rattle.std.specs.Prelude.{cond, List, [], ◌∷◌, ◌++◌, ℕ, zero, suc, ◌-◌, leb, length}
 use Rattle.cbf_pixels.specs.Octets.{octets}
 use Rattle.cbf_pixels.specs.declared.ElementType.{ElementType}
-use Rattle.cbf_pixels.specs.declared.ElementType.TheVariants.{U8, S8, U16, S16, U32, S32}
 use Rattle.cbf_pixels.specs.declared.Compression.{Compression}
-use Rattle.cbf_pixels.specs.declared.Compression.TheVariants.{Uncompressed, ByteOffset}
+use Rattle.cbf_pixels.specs.Numbers.{compression_number, type_number}
 use Rattle.cbf_format.specs.declared.Encoding.{Encoding}
 use Rattle.cbf_format.specs.declared.Encoding.TheVariants.{Binary, Base64}
 use Rattle.cbf_format.specs.Text.{bytes}
@@ -14,20 +13,6 @@ use Rattle.cbf_format.specs.Listing.{Placed, position}
 -- "label zero-filled to 32"
 abbrev pub label_width : ℕ
 label_width = 32
-
--- "compression (0 none, 1 byte offset)"
-abbrev pub compression_number : Compression → ℕ
-compression_number Uncompressed = 0
-compression_number ByteOffset = 1
-
--- "type (1 u8, 2 s8, 3 u16, 4 s16, 5 u32, 6 s32)"
-abbrev pub type_number : ElementType → ℕ
-type_number U8 = 1
-type_number S8 = 2
-type_number U16 = 3
-type_number S16 = 4
-type_number U32 = 5
-type_number S32 = 6
 
 -- "encoding (0 BINARY, 1 BASE64)"
 abbrev pub encoding_number : Encoding → ℕ
@@ -67,5 +52,5 @@ catalogue ps = bytes "FRC" ++ (0 ∷ (octets 2 1 ++ (octets 2 (length ps) ++ ent
 
 -- 17: "data block name over 32 characters", "section's boundary line", of the "lowest section"
 unfoldable pub long_name : List Placed → Option ℕ
-long_name [] = none
-long_name (p ∷ ps) = let r = long_name ps in cond (leb (length p.section.block) label_width) r (some p.boundary)
+long_name [] = None
+long_name (p ∷ ps) = let r = long_name ps in cond (leb (length p.section.block) label_width) r (Some p.boundary)

@@ -1,5 +1,5 @@
 -- What the call that writes a catalogue answers.
-use Rattle.std.proofs.Math.Option.{Option, none, some}
+use Rattle.std.specs.Prelude.{Option, None, Some}
 use Rattle.std.specs.Prelude.{List, [], ℕ, length}
 use Rattle.cbf_walk.specs.Reading.{Item, Reading, refused, good}
 use Rattle.cbf_answers.specs.Answers.{Outcome, refuses, written}
@@ -11,8 +11,8 @@ use Rattle.cbf_format.specs.Files as F
 
 -- "catalogue 17 (lowest section), 15", after reading
 abbrev pub catalogued_or : Option ℕ → List ℕ → ℕ → Outcome
-catalogued_or none text room = room_for text room
-catalogued_or (some p) text room = refuses 17 p
+catalogued_or None text room = room_for text room
+catalogued_or (Some p) text room = refuses 17 p
 
 unfoldable pub catalogue_outcome : Reading (Item F.State S.Section) → ℕ → Outcome
 unfolding room_for

@@ -1,5 +1,6 @@
 -- What a section's headers say of it: refusals 6 and 7. Document 01, "A section's headers".
-use Rattle.std.proofs.Math.Option.{Option, none, some, get_or}
+use Rattle.std.specs.Prelude.{Option, None, Some}
+use Rattle.std.specs.Prelude.{unwrap_or}
 use Rattle.std.specs.Prelude.{Bool, true, false, ◌&&◌, cond, List, [], ◌∷◌, ℕ, zero, suc, ◌*◌, leb, eqb}
 use Rattle.cbf_walk.specs.Parsers.{Res, bad, cut, ok, Parser}
 use Rattle.cbf_pixels.specs.declared.ElementType.{ElementType}
@@ -33,8 +34,8 @@ description_of encoding size elements compression kind id fastest second third =
 
 -- an ID or a dimension of a description, where 0 stands for none
 abbrev pub optional : ℕ → Option ℕ
-optional zero = none
-optional (suc n) = some (suc n)
+optional zero = None
+optional (suc n) = Some (suc n)
 
 -- ---- "6 over the headers in file order": the known headers with their values, or the place of the header that is
 -- repeated or has a bad value
@@ -60,19 +61,19 @@ abbrev pub same_header : KnownHeader → KnownHeader → Bool
 same_header j k = eqb (ordinal j) (ordinal k)
 
 abbrev pub look : KnownHeader → List (KnownHeader × ℕ) → Option ℕ
-look k [] = none
-look k (f ∷ fs) = let r = look k fs in cond (same_header k f.0) (some f.1) r
+look k [] = None
+look k (f ∷ fs) = let r = look k fs in cond (same_header k f.0) (Some f.1) r
 
 -- the value of header k at a place, where `old` was found before
 abbrev pub put : ℕ → KnownHeader → Option ℕ → Option ℕ → List (KnownHeader × ℕ) → Judged
-put at k (some old) v fs = refused_at at
-put at k none none fs = refused_at at
-put at k none (some n) fs = found ((k, n) ∷ fs)
+put at k (Some old) v fs = refused_at at
+put at k None None fs = refused_at at
+put at k None (Some n) fs = found ((k, n) ∷ fs)
 
 -- "Other headers are passed over"
 abbrev pub judge_header : Header → Option KnownHeader → List (KnownHeader × ℕ) → Judged
-judge_header h none fs = found fs
-judge_header h (some k) fs = put h.at k (look k fs) (value_of k h.value) fs
+judge_header h None fs = found fs
+judge_header h (Some k) fs = put h.at k (look k fs) (value_of k h.value) fs
 
 abbrev pub judge_on : (List (KnownHeader × ℕ) → Judged) → Judged → Judged
 judge_on go (refused_at p) = refused_at p
@@ -91,13 +92,13 @@ size_agrees ByteOffset t size elements = leb elements size && leb size (15 * ele
 -- "Second only with Fastest, Third only with Second; with Fastest given, the product of the given dimensions =
 -- elements"
 abbrev pub dimensions_agree : Option ℕ → Option ℕ → Option ℕ → ℕ → Bool
-dimensions_agree none none none e = true
-dimensions_agree none none (some c) e = false
-dimensions_agree none (some b) c e = false
-dimensions_agree (some a) none none e = eqb a e
-dimensions_agree (some a) none (some c) e = false
-dimensions_agree (some a) (some b) none e = eqb (a * b) e
-dimensions_agree (some a) (some b) (some c) e = eqb (a * b * c) e
+dimensions_agree None None None e = true
+dimensions_agree None None (Some c) e = false
+dimensions_agree None (Some b) c e = false
+dimensions_agree (Some a) None None e = eqb a e
+dimensions_agree (Some a) None (Some c) e = false
+dimensions_agree (Some a) (Some b) None e = eqb (a * b) e
+dimensions_agree (Some a) (Some b) (Some c) e = eqb (a * b * c) e
 
 abbrev pub agrees : Description → Bool
 agrees d =
@@ -122,12 +123,12 @@ abbrev pub type_of : ℕ → ElementType
 type_of k = cond (leb k 3) (cond (leb k 1) U8 (cond (leb k 2) S8 U16)) (cond (leb k 4) S16 (cond (leb k 5) U32 S32))
 
 abbrev pub or_zero : Option ℕ → ℕ
-or_zero n = get_or n 0
+or_zero n = unwrap_or n 0
 
 -- "Absent: unsigned 32-bit integer"
 abbrev pub description : ℕ → ℕ → ℕ → List (KnownHeader × ℕ) → Description
 description e n k fs =
-    description_of (encoding_of e) n k (compression_of (or_zero (look ContentType fs))) (type_of (get_or (look Kind fs) 5))
+    description_of (encoding_of e) n k (compression_of (or_zero (look ContentType fs))) (type_of (unwrap_or (look Kind fs) 5))
     (or_zero (look Id fs)) (or_zero (look Fastest fs)) (or_zero (look Second fs)) (or_zero (look Third fs))
 
 abbrev pub or_disagrees : ℕ → Description → Verdict
@@ -135,10 +136,10 @@ or_disagrees empty d = cond (agrees d) (describes d) (headers_refused 7 empty)
 
 -- "needed one missing .. the empty line"
 abbrev pub described : ℕ → Option ℕ → Option ℕ → Option ℕ → List (KnownHeader × ℕ) → Verdict
-described empty (some e) (some n) (some k) fs = or_disagrees empty (description e n k fs)
-described empty none n k fs = headers_refused 6 empty
-described empty (some e) none k fs = headers_refused 6 empty
-described empty (some e) (some n) none fs = headers_refused 6 empty
+described empty (Some e) (Some n) (Some k) fs = or_disagrees empty (description e n k fs)
+described empty None n k fs = headers_refused 6 empty
+described empty (Some e) None k fs = headers_refused 6 empty
+described empty (Some e) (Some n) None fs = headers_refused 6 empty
 
 abbrev pub verdict_of : ℕ → Judged → Verdict
 verdict_of empty (refused_at p) = headers_refused 6 p

@@ -1,5 +1,5 @@
 -- Reading a file. Document 01, "Lines, fields, blocks".
-use Rattle.std.proofs.Math.Option.{Option, none, some}
+use Rattle.std.specs.Prelude.{Option, None, Some}
 use Rattle.std.specs.Prelude.{Bool, true, false, ◌&&◌, ◌||◌, cond, List, [], ◌∷◌, ℕ, suc, ◌+◌, leb, eqb, length, take, drop}
 use Rattle.cbf_walk.specs.Parsers.{Parser, ret, bind, counted, screen}
 use Rattle.cbf_walk.specs.Reading.{Item, Reading, refused, read_f}
@@ -25,7 +25,7 @@ identified t = same (take 15 t) (bytes "###CBF: VERSION") && blank_then (drop 15
 
 -- "Test 1 comes before 2 and 3 on it"
 abbrev pub refused_first : ℕ → List ℕ → Option (ℕ × ℕ)
-refused_first limit t = cond (identified t) (refused_byte limit 0 t) (some (1, 0))
+refused_first limit t = cond (identified t) (refused_byte limit 0 t) (Some (1, 0))
 
 -- ---- the state between two lines: in a field, how many bytes back its opening `;` is
 
@@ -45,10 +45,10 @@ start = record { count = 0; block = []; field = first_line }
 
 -- 11: "file ends inside a field .. the opening `;`"
 abbrev pub open_field : Field → Option ℕ
-open_field first_line = none
-open_field outside = none
-open_field (opened n) = some n
-open_field (inside n) = some n
+open_field first_line = None
+open_field outside = None
+open_field (opened n) = Some n
+open_field (inside n) = Some n
 
 unfoldable pub due : State → Option ℕ
 due st = open_field st.field
@@ -96,7 +96,7 @@ is_boundary st t = is_opened st.field && same t opening
 
 -- "Sections: at most 512"; 4 for the "513th section: its boundary line"
 abbrev pub one_too_many : State → List ℕ → Option (ℕ × ℕ)
-one_too_many st t = cond (is_boundary st t && leb 512 st.count) (some (4, 0)) none
+one_too_many st t = cond (is_boundary st t && leb 512 st.count) (Some (4, 0)) None
 
 abbrev pub step_line : ℕ → Field → Parser (List ℕ)
 step_line limit first_line s = screen (refused_first limit) (line s)
@@ -111,8 +111,8 @@ section_or false p q = q
 abbrev pub after_step_line : ℕ → State → (List ℕ × ℕ) → Parser (Option Section × State)
 after_step_line limit st tn =
     section_or (is_boundary st tn.0)
-    (bind (section limit st.block tn.1) (λ i. ret (some i, after_section st)))
-    (ret (none, after_line st tn.0 tn.1))
+    (bind (section limit st.block tn.1) (λ i. ret (Some i, after_section st)))
+    (ret (None, after_line st tn.0 tn.1))
 
 unfoldable pub step : ℕ → State → Parser (Option Section × State)
 step limit st = bind (λ s. counted (screen (one_too_many st) (step_line limit st.field s))) (after_step_line limit st)

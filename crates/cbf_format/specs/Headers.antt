@@ -1,5 +1,5 @@
 -- The header lines of a section, and the headers that they make. Document 01, "A section's headers".
-use Rattle.std.proofs.Math.Option.{Option, none, some}
+use Rattle.std.specs.Prelude.{Option, None, Some}
 use Rattle.std.specs.Prelude.{Bool, true, false, ◌||◌, cond, not, List, [], ◌∷◌, ◌++◌, ℕ, zero, suc, ◌+◌, eqb}
 use Rattle.cbf_walk.specs.Parsers.{cut, Parser, ret, bind, counted, screen, onward}
 use Rattle.cbf_format.specs.Text.{blank, digit, letter, skip, trim}
@@ -10,17 +10,17 @@ abbrev pub name_byte : ℕ → Bool
 name_byte x = letter x || (digit x || eqb x 45)
 
 abbrev pub add_name : ℕ → Option (List ℕ × List ℕ) → Option (List ℕ × List ℕ)
-add_name x none = none
-add_name x (some nv) = some (x ∷ nv.0, nv.1)
+add_name x None = None
+add_name x (Some nv) = Some (x ∷ nv.0, nv.1)
 
 abbrev pub split_colon : List ℕ → Option (List ℕ × List ℕ)
-split_colon [] = none
-split_colon (x ∷ t) = let r = split_colon t in cond (eqb x 58) (some ([], t)) (cond (name_byte x) (add_name x r) none)
+split_colon [] = None
+split_colon (x ∷ t) = let r = split_colon t in cond (eqb x 58) (Some ([], t)) (cond (name_byte x) (add_name x r) None)
 
 abbrev pub some_name : Option (List ℕ × List ℕ) → Bool
-some_name none = false
-some_name (some ([], v)) = false
-some_name (some (x ∷ n, v)) = true
+some_name None = false
+some_name (Some ([], v)) = false
+some_name (Some (x ∷ n, v)) = true
 
 abbrev pub continues : List ℕ → Bool
 continues [] = false
@@ -33,9 +33,9 @@ malformed first (x ∷ t) = cond (blank x) first (not (some_name (split_colon (x
 
 -- "Line by line come 2 and 3, then 5"
 abbrev pub or_malformed : Option (ℕ × ℕ) → Bool → Option (ℕ × ℕ)
-or_malformed (some r) b = some r
-or_malformed none true = some (5, 0)
-or_malformed none false = none
+or_malformed (Some r) b = Some r
+or_malformed None true = Some (5, 0)
+or_malformed None false = None
 
 unfoldable pub header_line : ℕ → Bool → Parser (List ℕ)
 header_line limit first s = screen (λ t. or_malformed (refused_byte limit 0 t) (malformed first t)) (line s)
@@ -72,8 +72,8 @@ pub record Grouped : Type 0 where
   pub text : List ℕ
 
 abbrev pub headed : ℕ → Option (List ℕ × List ℕ) → Grouped → Grouped
-headed at none g = g
-headed at (some nv) g = record { headers = record { at = at; name = nv.0; value = trim (nv.1 ++ g.text) } ∷ g.headers; text = [] }
+headed at None g = g
+headed at (Some nv) g = record { headers = record { at = at; name = nv.0; value = trim (nv.1 ++ g.text) } ∷ g.headers; text = [] }
 
 -- "its leading blanks read as one space"; "blanks around the value are dropped"
 abbrev pub group : List (ℕ × List ℕ) → Grouped

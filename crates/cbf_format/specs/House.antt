@@ -1,7 +1,7 @@
 -- House form: document 01's own term for the one way in which a section is written. Document 01, "House form,
 -- catalogue, listing": "Replacement rewrites the span .., always byte offset, keeping type, ID and dimensions; other
 -- headers go."
-use Rattle.std.proofs.Math.Option.{Option, none, some}
+use Rattle.std.specs.Prelude.{Option, None, Some}
 use Rattle.std.specs.Prelude.{cond, List, [], ◌∷◌, ◌++◌, ℕ, suc, ◌+◌, eqb, length}
 use Rattle.cbf_format.specs.Text.{bytes}
 use Rattle.cbf_format.specs.Values.{type_words}
@@ -21,8 +21,8 @@ ended_lines (l ∷ ls) = ended l ++ ended_lines ls
 
 -- "Numbers have no leading zeros"; "an absent ID has no line", nor has a dimension
 abbrev pub number_line : List ℕ → Option ℕ → List (List ℕ) → List (List ℕ)
-number_line name none ls = ls
-number_line name (some n) ls = (name ++ printed n) ∷ ls
+number_line name None ls = ls
+number_line name (Some n) ls = (name ++ printed n) ∷ ls
 
 -- the header lines of a section with that many octets; "Dimension lines, if any, follow the elements line, fastest
 -- first"
@@ -31,11 +31,11 @@ house_lines size d =
     bytes "Content-Type: application/octet-stream;"
     ∷ bytes "     conversions=\"x-CBF_BYTE_OFFSET\""
     ∷ bytes "Content-Transfer-Encoding: BINARY"
-    ∷ number_line (bytes "X-Binary-Size: ") (some size)
+    ∷ number_line (bytes "X-Binary-Size: ") (Some size)
     (number_line (bytes "X-Binary-ID: ") (optional d.id)
     ((bytes "X-Binary-Element-Type: \"" ++ (type_words d.kind ++ bytes "\""))
     ∷ bytes "X-Binary-Element-Byte-Order: LITTLE_ENDIAN"
-    ∷ number_line (bytes "X-Binary-Number-of-Elements: ") (some d.elements)
+    ∷ number_line (bytes "X-Binary-Number-of-Elements: ") (Some d.elements)
     (number_line (bytes "X-Binary-Size-Fastest-Dimension: ") (optional d.fastest)
     (number_line (bytes "X-Binary-Size-Second-Dimension: ") (optional d.second)
     (number_line (bytes "X-Binary-Size-Third-Dimension: ") (optional d.third) [])))))
@@ -67,19 +67,19 @@ NewOctets = ℕ → Option (List ℕ)
 
 -- of section n alone
 abbrev pub only : ℕ → List ℕ → NewOctets
-only n os m = cond (eqb m n) (some os) none
+only n os m = cond (eqb m n) (Some os) None
 
 -- first f, and then g: the later octets of a section count
 abbrev pub later_or : Option (List ℕ) → Option (List ℕ) → Option (List ℕ)
-later_or o none = o
-later_or o (some os) = some os
+later_or o None = o
+later_or o (Some os) = Some os
 
 abbrev pub later : NewOctets → NewOctets → NewOctets
 later f g n = later_or (f n) (g n)
 
 abbrev pub add_exchange : Placed → Option (List ℕ) → List Exchange → List Exchange
-add_exchange p none xs = xs
-add_exchange p (some os) xs = in_house p os ∷ xs
+add_exchange p None xs = xs
+add_exchange p (Some os) xs = in_house p os ∷ xs
 
 -- of these sections, of which the first has number n, those that have new octets are exchanged
 unfoldable pub exchanges : NewOctets → ℕ → List Placed → List Exchange

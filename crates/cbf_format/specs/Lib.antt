@@ -15,3 +15,4 @@ pub mod SectionCalls
 pub mod ListCalls
 pub mod CatalogueCalls
 pub mod ReplaceCalls
+pub mod Reads

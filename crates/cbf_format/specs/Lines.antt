@@ -1,13 +1,13 @@
 -- Lines. Document 01, "Lines, fields, blocks". `limit` is the most characters that a text line may have.
-use Rattle.std.proofs.Math.Option.{Option, none, some}
+use Rattle.std.specs.Prelude.{Option, None, Some}
 use Rattle.std.specs.Prelude.{Bool, true, false, ◌&&◌, cond, List, [], ◌∷◌, ℕ, suc, leb, ltb, eqb, length, take}
 use Rattle.cbf_walk.specs.Parsers.{Res, bad, cut, ok, Parser, hd, counted, screen}
 use Rattle.cbf_format.specs.Text.{blanks, textual, same}
 
 -- "A line ends with 13 10, 13 alone, 10 alone, or the file's end": how long a line end is that begins with 13
 abbrev pub end_length : Option ℕ → ℕ
-end_length none = 1
-end_length (some y) = cond (eqb y 10) 2 1
+end_length None = 1
+end_length (Some y) = cond (eqb y 10) 2 1
 
 abbrev pub add_byte : ℕ → Res (List ℕ) → Res (List ℕ)
 add_byte x (bad k p) = bad k p
@@ -28,15 +28,15 @@ line (x ∷ xs) = let r = line xs in line_or (eqb x 10) (eqb x 13) x xs r
 -- "Bytes of a line are tested in order; at the same byte 3 comes before 2": the first byte of a text line that is
 -- refused, where these are the bytes from column i on
 abbrev pub refused_byte : ℕ → ℕ → List ℕ → Option (ℕ × ℕ)
-refused_byte limit i [] = none
-refused_byte limit i (x ∷ t) = cond (textual x) (cond (ltb i limit) (refused_byte limit (suc i) t) (some (2, i))) (some (3, i))
+refused_byte limit i [] = None
+refused_byte limit i (x ∷ t) = cond (textual x) (cond (ltb i limit) (refused_byte limit (suc i) t) (Some (2, i))) (Some (3, i))
 
 unfoldable pub text_line : ℕ → Parser (List ℕ)
 text_line limit s = screen (refused_byte limit 0) (line s)
 
 -- a line end and no more
 abbrev pub only_end : (List ℕ × ℕ) → Option (ℕ × ℕ)
-only_end tn = cond (same tn.0 [] && leb 1 tn.1) none (some (9, 0))
+only_end tn = cond (same tn.0 [] && leb 1 tn.1) None (Some (9, 0))
 
 unfoldable pub line_end : Parser (List ℕ × ℕ)
 line_end s = screen only_end (counted (line s))
@@ -47,12 +47,12 @@ exactly n s = cond (leb n (length s)) (ok (take n s) n) (bad 9 (length s))
 
 -- just these bytes
 unfoldable pub literal : List ℕ → Parser (List ℕ)
-literal w s = screen (λ t. cond (same t w) none (some (9, 0))) (exactly (length w) s)
+literal w s = screen (λ t. cond (same t w) None (Some (9, 0))) (exactly (length w) s)
 
 -- "`;` with at most 79 blanks", where a line has at most 80 characters
 abbrev pub semicolon : ℕ → List ℕ → Option (ℕ × ℕ)
-semicolon limit [] = some (9, 0)
-semicolon limit (x ∷ t) = cond (eqb x 59 && (blanks t && ltb (length t) limit)) none (some (9, 0))
+semicolon limit [] = Some (9, 0)
+semicolon limit (x ∷ t) = cond (eqb x 59 && (blanks t && ltb (length t) limit)) None (Some (9, 0))
 
 unfoldable pub semicolon_line : ℕ → Parser (List ℕ)
 semicolon_line limit s = screen (semicolon limit) (line s)

@@ -1,5 +1,5 @@
 -- The sections of a file, and its listing. Document 01, "House form, catalogue, listing".
-use Rattle.std.proofs.Math.Option.{Option, none, some}
+use Rattle.std.specs.Prelude.{Option, None, Some}
 use Rattle.std.specs.Prelude.{cond, List, [], ◌∷◌, ◌++◌, ℕ, zero, suc, ◌+◌, ◌/◌, ◌%◌, ltb, length}
 use Rattle.cbf_walk.specs.Reading.{Item, Reading, refused, good}
 use Rattle.cbf_pixels.specs.declared.ElementType.{ElementType}
@@ -16,8 +16,8 @@ pub record Placed : Type 0 where
   pub section : Section
 
 abbrev pub add_placed : ℕ → Option Section → List Placed → List Placed
-add_placed at none l = l
-add_placed at (some i) l = record { boundary = at; section = i } ∷ l
+add_placed at None l = l
+add_placed at (Some i) l = record { boundary = at; section = i } ∷ l
 
 -- the sections of a tree, whose bytes start at a place
 unfoldable pub sections : ℕ → Tree → List Placed
@@ -26,9 +26,9 @@ sections at (it ∷ its) = add_placed at it.info (sections (at + length it.bytes
 
 -- the section with a number, "0 or above the count" has none: 12
 unfoldable pub numbered : ℕ → List Placed → Option Placed
-numbered zero ps = none
-numbered (suc n) [] = none
-numbered (suc zero) (p ∷ ps) = some p
+numbered zero ps = None
+numbered (suc n) [] = None
+numbered (suc zero) (p ∷ ps) = Some p
 numbered (suc (suc n)) (p ∷ ps) = numbered (suc n) ps
 
 -- the position of the first octet (BASE64: the byte after the empty line)

@@ -1,20 +1,19 @@
 -- What the calls that count a file's sections or ask for one of them answer, by document 01's numbers.
 use Rattle.std.specs.Prelude.{cond, List, [], ℕ, ◌+◌, ◌≤◌, leb, eqb, length, ℤ}
-use Rattle.std.proofs.Math.Option.{Option, none, some}
+use Rattle.std.specs.Prelude.{Option, None, Some, Ok, Err, Result as Answered}
 use Rattle.std.proofs.Math.Seq.{slice}
 use Rattle.cbf_walk.specs.Reading.{Item, Reading, refused, good}
 use Rattle.cbf_answers.specs.Answers.{Outcome, gives, refuses, written}
+use Rattle.cbf_answers.specs.declared.Refusal.{Refusal}
 use Rattle.cbf_pixels.specs.PixelCalls.{is_some, pixels_of, unpack_pixels}
 use Rattle.cbf_format.specs.declared.Encoding.{Encoding}
 use Rattle.cbf_format.specs.declared.Encoding.TheVariants.{Binary, Base64}
 use Rattle.cbf_format.specs.Listing.{Placed, sections, numbered, position}
 use Rattle.cbf_format.specs.declared.Description.{Description}
-use Rattle.cbf_format.specs.declared.Numbered.{Numbered}
+use Rattle.cbf_format.specs.declared.Section.{Section}
 use Rattle.cbf_format.specs.declared.OctetsPlace.{OctetsPlace}
 use Rattle.cbf_format.specs.Sections as S
 use Rattle.cbf_format.specs.Files as F
-use Rattle.cbf_format.specs.declared.Numbered.TheVariants as N
-use Rattle.cbf_format.specs.declared.OctetsPlace.TheVariants as O
 
 -- the number of sections, or reading's refusal
 unfoldable pub read_outcome : Reading (Item F.State S.Section) → Outcome
@@ -30,8 +29,8 @@ pub data Result (A : Type 0) : Type 0 where
 
 -- 12: "section number is 0 or above the count"
 abbrev pub or_missing : Option Placed → Result Placed
-or_missing none = refusal 12 0
-or_missing (some p) = value p
+or_missing None = refusal 12 0
+or_missing (Some p) = value p
 
 -- "Every call on a file reads it first"
 abbrev pub section_numbered : Reading (Item F.State S.Section) → ℕ → Result Placed
@@ -58,10 +57,10 @@ pub record Fields : Type 0 where
   pub first : ℕ
   pub block : List ℕ
 
--- document 01's number and values for each case of the enum
-abbrev pub numbered_fields : List ℕ → Numbered → Result Fields
-numbered_fields file (N.Refused r) = refusal r.number r.place
-numbered_fields file (N.As s) =
+-- document 01's number, or the fields of a section as the code has it
+abbrev pub numbered_fields : List ℕ → Answered Section Refusal → Result Fields
+numbered_fields file (Err r) = refusal r.number r.place
+numbered_fields file (Ok s) =
     value (record {
       description = s.description;
       boundary = s.from;
@@ -70,10 +69,10 @@ numbered_fields file (N.As s) =
       block = slice s.block.from s.block.to file;
     })
 
--- the place that the enum's case has for the name lies in the file
-abbrev pub NameInside : List ℕ → Numbered → Type 0
-NameInside file (N.Refused r) = 0 ≤ length file
-NameInside file (N.As s) = (s.block.from ≤ s.block.to) × (s.block.to ≤ length file)
+-- the place that a section has for the name lies in the file
+abbrev pub NameInside : List ℕ → Answered Section Refusal → Type 0
+NameInside file (Err r) = 0 ≤ length file
+NameInside file (Ok s) = (s.block.from ≤ s.block.to) × (s.block.to ≤ length file)
 
 abbrev pub fields_of : Placed → Fields
 fields_of p =
@@ -124,10 +123,10 @@ abbrev pub octets_part : Result OctetsAnswer → List ℕ
 octets_part (refusal k p) = []
 octets_part (value o) = o.octets
 
--- document 01's number and values for each case of the enum
-abbrev pub place_of : OctetsPlace → Result Place
-place_of (O.Refused r) = refusal r.number r.place
-place_of (O.At first size) = value (record { start = first; count = size })
+-- document 01's number, or the place of the octets
+abbrev pub place_of : Answered OctetsPlace Refusal → Result Place
+place_of (Err r) = refusal r.number r.place
+place_of (Ok o) = value (record { start = o.first; count = o.size })
 
 -- ---- unpacking: "12, 13, 15"
 

@@ -1,5 +1,5 @@
 -- A binary section, from its boundary line on. Document 01, "The octets and their end".
-use Rattle.std.proofs.Math.Option.{Option, none, some}
+use Rattle.std.specs.Prelude.{Option, None, Some}
 use Rattle.std.specs.Prelude.{List, [], ◌∷◌, ℕ, ◌+◌, length, drop}
 use Rattle.cbf_walk.specs.Parsers.{Res, bad, cut, ok, Parser, ret, plus, bind, counted, screen, blame}
 use Rattle.cbf_format.specs.declared.Encoding.{Encoding}
@@ -55,12 +55,12 @@ abbrev pub good_text : ℕ → Letters → Option (ℕ × ℕ)
 good_text size l = refused_unless (sized size (decode l.symbols)) l.closing
   where
     refused_unless : Option (List ℕ) → ℕ → Option (ℕ × ℕ)
-    refused_unless none at = some (10, at)
-    refused_unless (some os) at = none
+    refused_unless None at = Some (10, at)
+    refused_unless (Some os) at = None
 
 abbrev pub decoded : Option (List ℕ) → List ℕ
-decoded none = []
-decoded (some os) = os
+decoded None = []
+decoded (Some os) = os
 
 -- every refusal is k, at a place p of the bytes that were begun with
 abbrev pub blame_at : {A : Type 0} → ℕ → ℕ → Res A → Res A

@@ -1,5 +1,5 @@
 -- The values of the known headers, each as a number. Document 01, "A section's headers".
-use Rattle.std.proofs.Math.Option.{Option, none, some}
+use Rattle.std.specs.Prelude.{Option, None, Some}
 use Rattle.std.specs.Prelude.{Bool, true, false, ◌&&◌, cond, not, List, [], ◌∷◌, ℕ, suc, ◌+◌, ◌*◌, ◌-◌, leb, eqb, length}
 use Rattle.cbf_answers.specs.Limits.{file_limit, pixel_limit}
 use Rattle.cbf_pixels.specs.declared.ElementType.{ElementType}
@@ -21,54 +21,54 @@ decimal n [] = n
 decimal n (x ∷ t) = decimal (n * 10 + (x - 48)) t
 
 unfoldable pub decimal_number : List ℕ → Option ℕ
-decimal_number t = cond ((leb 1 (length t) && leb (length t) 10) && digits t) (some (decimal 0 t)) none
+decimal_number t = cond ((leb 1 (length t) && leb (length t) 10) && digits t) (Some (decimal 0 t)) None
 
 abbrev pub between : ℕ → ℕ → Option ℕ → Option ℕ
-between least most none = none
-between least most (some n) = cond (leb least n && leb n most) (some n) none
+between least most None = None
+between least most (Some n) = cond (leb least n && leb n most) (Some n) None
 
 -- which of the words, which are in lower case, the text is in any case, counted from k
 abbrev pub one_of : ℕ → List (List ℕ) → List ℕ → Option ℕ
-one_of k [] t = none
-one_of k (w ∷ ws) t = let r = one_of (suc k) ws t in cond (same w (lowers t)) (some k) r
+one_of k [] t = None
+one_of k (w ∷ ws) t = let r = one_of (suc k) ws t in cond (same w (lowers t)) (Some k) r
 
 -- "quoted or not": without one pair of double quotes around it; none where only one is there
 abbrev pub add_quoted : ℕ → Option (List ℕ) → Option (List ℕ)
-add_quoted x none = none
-add_quoted x (some t) = some (x ∷ t)
+add_quoted x None = None
+add_quoted x (Some t) = Some (x ∷ t)
 
 abbrev pub end_quote : List ℕ → Option (List ℕ)
-end_quote [] = none
-end_quote (x ∷ []) = cond (eqb x 34) (some []) none
+end_quote [] = None
+end_quote (x ∷ []) = cond (eqb x 34) (Some []) None
 end_quote (x ∷ y ∷ t) = add_quoted x (end_quote (y ∷ t))
 
 abbrev pub unquote : List ℕ → Option (List ℕ)
-unquote [] = some []
-unquote (x ∷ t) = cond (eqb x 34) (end_quote t) (some (x ∷ t))
+unquote [] = Some []
+unquote (x ∷ t) = cond (eqb x 34) (end_quote t) (Some (x ∷ t))
 
 abbrev pub quoted_one_of : ℕ → List (List ℕ) → Option (List ℕ) → Option ℕ
-quoted_one_of k ws none = none
-quoted_one_of k ws (some t) = one_of k ws t
+quoted_one_of k ws None = None
+quoted_one_of k ws (Some t) = one_of k ws t
 
 -- ---- Content-Type: "split at `;` outside double quotes", none for "an unclosed quote"
 
 abbrev pub add_to_part : ℕ → Option (List (List ℕ)) → Option (List (List ℕ))
-add_to_part x none = none
-add_to_part x (some []) = some ((x ∷ []) ∷ [])
-add_to_part x (some (p ∷ ps)) = some ((x ∷ p) ∷ ps)
+add_to_part x None = None
+add_to_part x (Some []) = Some ((x ∷ []) ∷ [])
+add_to_part x (Some (p ∷ ps)) = Some ((x ∷ p) ∷ ps)
 
 abbrev pub new_part : Option (List (List ℕ)) → Option (List (List ℕ))
-new_part none = none
-new_part (some ps) = some ([] ∷ ps)
+new_part None = None
+new_part (Some ps) = Some ([] ∷ ps)
 
 abbrev pub parts : Bool → List ℕ → Option (List (List ℕ))
-parts quoted [] = cond quoted none (some ([] ∷ []))
+parts quoted [] = cond quoted None (Some ([] ∷ []))
 parts quoted (x ∷ t) = let r = parts (cond (eqb x 34) (not quoted) quoted) t in cond (eqb x 59 && not quoted) (new_part r) (add_to_part x r)
 
 -- "a later part whose text before any `=` is `conversions`, at most one, must have the value `x-CBF_BYTE_OFFSET`"
 abbrev pub given : Conversion → Option ℕ → Conversion
-given Unseen (some k) = Seen
-given Unseen none = Wrong
+given Unseen (Some k) = Seen
+given Unseen None = Wrong
 given Seen v = Wrong
 given Wrong v = Wrong
 
@@ -80,16 +80,16 @@ with_part c p =
 
 -- "None means no compression": 0, and 1 for byte offset
 abbrev pub conversions : Conversion → List (List ℕ) → Option ℕ
-conversions Unseen [] = some 0
-conversions Seen [] = some 1
-conversions Wrong [] = none
+conversions Unseen [] = Some 0
+conversions Seen [] = Some 1
+conversions Wrong [] = None
 conversions c (p ∷ ps) = conversions (with_part c p) ps
 
 -- the first part is free
 abbrev pub content_type : Option (List (List ℕ)) → Option ℕ
-content_type none = none
-content_type (some []) = some 0
-content_type (some (p ∷ ps)) = conversions Unseen ps
+content_type None = None
+content_type (Some []) = Some 0
+content_type (Some (p ∷ ps)) = conversions Unseen ps
 
 -- ---- the known headers
 
@@ -112,8 +112,8 @@ known_headers = TransferEncoding ∷ Size ∷ Elements ∷ ContentType ∷ Kind 
 
 -- the header of a list whose name the text is, in any case
 abbrev pub header_named : List KnownHeader → List ℕ → Option KnownHeader
-header_named [] t = none
-header_named (h ∷ hs) t = let r = header_named hs t in cond (same (name_of h) (lowers t)) (some h) r
+header_named [] t = None
+header_named (h ∷ hs) t = let r = header_named hs t in cond (same (name_of h) (lowers t)) (Some h) r
 
 -- "unsigned or signed, 8, 16 or 32"
 abbrev pub type_words : ElementType → List ℕ

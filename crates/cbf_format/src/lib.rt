@@ -4,6 +4,10 @@
 
 #![tactic(auto)]
 
+ghost use Rattle.std.specs.Prelude.{◌≡◌};
+ghost use Rattle.cbf_format.specs.Catalogue.{encoding_number};
+ghost use Rattle.cbf_format.specs.declared.Stop.TheVariants.{Refused};
+
 use cbf_answers::Refusal;
 use cbf_pixels::{Compression, ElementType};
 
@@ -22,7 +26,7 @@ pub const CLOSING_LENGTH: usize = 31;
 pub const LABEL_WIDTH: usize = 32;
 
 // What a byte of BASE64 text is: a letter with its six-bit number, the pad `=`, a blank, or none of these.
-#[derive(Clone, Copy)]
+#[derive(Clone, Copy, Debug, PartialEq, Eq)]
 pub enum Symbol {
     Letter(u8),
     Pad,
@@ -31,14 +35,26 @@ pub enum Symbol {
 }
 
 // "Content-Transfer-Encoding, needed: BINARY or BASE64."
-#[derive(Clone, Copy)]
+#[derive(Clone, Copy, Debug, PartialEq, Eq)]
 pub enum Encoding {
     Binary,
     Base64,
 }
 
+// Its number, in catalogues and for C.
+impl From<Encoding> for u8 {
+    ghost from_gives = { λ encoding number. number ≡ encoding_number encoding };
+
+    fn from(encoding: Encoding) -> u8 {
+        match encoding {
+            Encoding::Binary => 0,
+            Encoding::Base64 => 1,
+        }
+    }
+}
+
 // The headers whose values are read, in the order that document 01 lists them; "other headers are passed over".
-#[derive(Clone, Copy)]
+#[derive(Clone, Copy, Debug, PartialEq, Eq)]
 pub enum KnownHeader {
     // Content-Transfer-Encoding
     TransferEncoding,
@@ -63,7 +79,7 @@ pub enum KnownHeader {
 }
 
 // What a section's headers say. An ID or a dimension that is absent is 0: each is at least 1 where it is given.
-#[derive(Clone, Copy)]
+#[derive(Clone, Copy, Debug, PartialEq, Eq)]
 pub struct Description {
     pub encoding: Encoding,
     pub size: u64,
@@ -77,7 +93,7 @@ pub struct Description {
 }
 
 // What the parts of Content-Type have said so far of conversions: nothing, byte offset, or what is no value of it.
-#[derive(Clone, Copy)]
+#[derive(Clone, Copy, Debug, PartialEq, Eq)]
 pub enum Conversion {
     Unseen,
     Seen,
@@ -85,7 +101,7 @@ pub enum Conversion {
 }
 
 // A part of the file.
-#[derive(Clone, Copy)]
+#[derive(Clone, Copy, Debug, PartialEq, Eq)]
 pub struct Range {
     pub from: usize,
     pub to: usize,
@@ -93,7 +109,7 @@ pub struct Range {
 
 // A section: its headers, its span (document 01's term: from the opening boundary's first hyphen to the closing
 // boundary's last), the place of the first octet (BASE64: of the text), and its data block's name.
-#[derive(Clone, Copy)]
+#[derive(Clone, Copy, Debug, PartialEq, Eq)]
 pub struct Section {
     pub description: Description,
     pub from: usize,
@@ -102,15 +118,24 @@ pub struct Section {
     pub block: Range,
 }
 
-#[derive(Clone, Copy)]
-pub enum Numbered {
-    Refused(Refusal),
-    As(Section),
+// The place of a section's first octet, and how many octets there are.
+#[derive(Clone, Copy, Debug, PartialEq, Eq)]
+pub struct OctetsPlace {
+    pub first: usize,
+    pub size: usize,
 }
 
-// A refusal, or the place of a section's first octet and how many octets there are.
-#[derive(Clone, Copy)]
-pub enum OctetsPlace {
+// Why reading stops before what it looks for: a refusal, or that the file ends there.
+#[derive(Clone, Copy, Debug, PartialEq, Eq)]
+pub enum Stop {
     Refused(Refusal),
-    At(usize, usize),
+    CutOff,
+}
+
+impl From<Refusal> for Stop {
+    ghost from_gives = { λ refusal stop. stop ≡ Refused refusal };
+
+    fn from(refusal: Refusal) -> Stop {
+        Stop::Refused(refusal)
+    }
 }

@@ -2,7 +2,7 @@
 -- nothing.
 use mathlib.Core.Path.{◌≡◌, refl, sym, ap, subst, ◌∙◌}
 use mathlib.Core.Logic.{◌⊎◌, inl, inr, ⊎_elim}
-use mathlib.Core.Option.{Option, none, some}
+use Rattle.std.specs.Prelude.{Option, None, Some}
 use mathlib.Core.Bool.{Bool, true, false, cond, not}
 use mathlib.Core.List.{List, [], ◌∷◌, ◌++◌, append-nil, append_assoc}
 use Prim.Native.Nat.{ℕ, zero, suc, ◌+◌, ◌-◌, ◌<◌, ◌≤◌}
@@ -56,7 +56,8 @@ ends-10 : (x : ℕ) → x ≡ 10 → Ends (x ∷ [])
 ends-10 x e = record { reads = λ r h. joined-10 x r e; other = λ r. rw e }
 
 ends-13 : (x : ℕ) → x ≡ 13 → Ends (x ∷ [])
-ends-13 x e = record { reads = λ r h. joined-13 x r e ∙ ap (λ (l : List ℕ). 32 ∷ l) (after-return r h); other = λ r. rw e }
+ends-13 x e =
+    record { reads = λ r h. joined-13 x r e ∙ ap (λ (l : List ℕ). 32 ∷ l) (after-return r h); other = λ r. rw e }
 
 ends-both : (x y : ℕ) → x ≡ 13 → y ≡ 10 → Ends (x ∷ y ∷ [])
 unfolding joined_from
@@ -67,15 +68,19 @@ return-split x [] e = record { plain = nil-plain; starts = refl; ends = inl refl
 return-split x (y ∷ xs) e = go (eqb y 10) refl
   where
     go : (b : Bool) → eqb y 10 ≡ b → Split (x ∷ y ∷ xs) [] (cond (eqb y 10) 2 1)
-    go true f = rw f (record { plain = nil-plain; starts = refl; ends = inr (x ∷ y ∷ [], refl, ends-both x y e (eqb-true y 10 f)) })
+    go true f =
+        rw f (record
+        { plain = nil-plain; starts = refl; ends = inr (x ∷ y ∷ [], refl, ends-both x y e (eqb-true y 10 f)) })
     go false f = rw f (record { plain = nil-plain; starts = refl; ends = inr (x ∷ [], refl, ends-13 x e) })
 
 splits : (s : List ℕ) → SplitOf s (line s)
 splits [] = record { plain = nil-plain; starts = refl; ends = inl refl }
 splits (x ∷ xs) = go (eqb x 10) refl (eqb x 13) refl (line xs) (splits xs)
   where
-    go : (a : Bool) → eqb x 10 ≡ a → (b : Bool) → eqb x 13 ≡ b → (r : Res (List ℕ)) → SplitOf xs r → SplitOf (x ∷ xs) (line_or a b x xs r)
-    go true e b f r p = record { plain = nil-plain; starts = refl; ends = inr (x ∷ [], refl, ends-10 x (eqb-true x 10 e)) }
+    go : (a : Bool) → eqb x 10 ≡ a → (b : Bool) → eqb x 13 ≡ b → (r : Res (List ℕ)) → SplitOf xs r
+        → SplitOf (x ∷ xs) (line_or a b x xs r)
+    go true e b f r p =
+        record { plain = nil-plain; starts = refl; ends = inr (x ∷ [], refl, ends-10 x (eqb-true x 10 e)) }
     go false e true f r p = return-split x xs (eqb-true x 13 f)
     go false e false f (bad k q) p = tt
     go false e false f cut p = tt
@@ -115,12 +120,13 @@ in-blanks-skip : (c r : List ℕ) → Plain c → Lacks blank r → joined_from 
 in-blanks-skip [] r p h = blanks-over r h
 in-blanks-skip (x ∷ c) r p h = go (in-blanks-skip c r (λ k. p (suc k)) h) (blank x) refl
   where
-    go : joined_from in_blanks (c ++ r) ≡ skip c ++ joined r → (b : Bool) → blank x ≡ b → joined_from in_blanks (x ∷ (c ++ r)) ≡ skip (x ∷ c) ++ joined r
+    go : joined_from in_blanks (c ++ r) ≡ skip c ++ joined r → (b : Bool) → blank x ≡ b
+        → joined_from in_blanks (x ∷ (c ++ r)) ≡ skip (x ∷ c) ++ joined r
     go i true e = in-blanks-blank x (c ++ r) e ∙ i ∙ ap (λ (l : List ℕ). l ++ joined r) (sym (skip-blank x c e))
     go i false e = blanks-over (x ∷ (c ++ r)) e ∙ p 0 r ∙ ap (λ (l : List ℕ). l ++ joined r) (sym (skip-other x c e))
 
 lacks-10 : (c r : List ℕ) → continues c ≡ true → Lacks (λ x. eqb x 10) (c ++ r)
-lacks-10 [] r h = let z : ◌≡◌ {A = ℕ} 0 1 = cc in absurd (omega arith)
+lacks-10 [] r h = cc
 lacks-10 (x ∷ c) r h = differs blank true x 10 h refl
 
 first_line : {s t : List ℕ} {cs : List (List ℕ)} {m l : ℕ} → Continued s t cs m l → (n : ℕ) × (line s ≡ ok t n)
@@ -198,91 +204,101 @@ group-continued : (cs rest : List (ℕ × List ℕ)) → Each (texts cs) → (gr
     ≡ record { headers = (group rest).headers; text = continued (texts cs) }
 group-continued [] rest h e = ap (λ (t : List ℕ). record { headers = (group rest).headers; text = t }) e
 group-continued (c ∷ cs) rest h e =
-    rw h.0 (ap (λ (g : Grouped). record { headers = g.headers; text = 32 ∷ (skip c.1 ++ g.text) }) (group-continued cs rest h.1 e))
+    rw h.0 (ap (λ (g : Grouped). record { headers = g.headers; text = 32 ∷ (skip c.1 ++ g.text) })
+    (group-continued cs rest h.1 e))
 
 -- the name, and what follows the colon
 abbrev ColonOf : List ℕ → Option (List ℕ × List ℕ) → Type 0
-ColonOf t none = Unit {0}
-ColonOf t (some nv) = (nv.1 ≡ drop (suc (length nv.0)) t) × (suc (length nv.0) ≤ length t)
+ColonOf t None = Unit {0}
+ColonOf t (Some nv) = (nv.1 ≡ drop (suc (length nv.0)) t) × (suc (length nv.0) ≤ length t)
 
 colons : (t : List ℕ) → ColonOf t (split_colon t)
 colons [] = tt
 colons (x ∷ t) = go (eqb x 58) (name_byte x) (split_colon t) (colons t)
   where
-    go : (a b : Bool) (r : Option (List ℕ × List ℕ)) → ColonOf t r → ColonOf (x ∷ t) (cond a (some ([], t)) (cond b (add_name x r) none))
+    go : (a b : Bool) (r : Option (List ℕ × List ℕ)) → ColonOf t r
+        → ColonOf (x ∷ t) (cond a (Some ([], t)) (cond b (add_name x r) None))
     go true b r p = (refl, omega arith)
     go false false r p = tt
-    go false true none p = tt
-    go false true (some nv) p = (p.0, omega (arith, p.1))
+    go false true None p = tt
+    go false true (Some nv) p = (p.0, omega (arith, p.1))
 
-module _ (at : ℕ) (t : List ℕ) (name value : List ℕ) (b : continues t ≡ false) (h : split_colon t ≡ some (name, value)) where
-  -- a header's line ends the text before it
-  pub header-text : (ls : List (ℕ × List ℕ)) → (group ((at, t) ∷ ls)).text ≡ []
-  header-text ls = rw (b, h)
+module _ (at : ℕ) (t : List ℕ) (name value : List ℕ) (b : continues t ≡ false) (h : split_colon t ≡ Some (name, value))
+  where
+    -- a header's line ends the text before it
+    pub header-text : (ls : List (ℕ × List ℕ)) → (group ((at, t) ∷ ls)).text ≡ []
+    header-text ls = rw (b, h)
 
-  module _ (file : List ℕ) (p : ℕ) (fits : p ≤ length file) (cs : List (ℕ × List ℕ)) {m l : ℕ} (lies : Continued (drop p file) t (texts cs) m l) where
-    part : (k : ℕ) → drop k (take m (drop p file)) ≡ slice (p + k) (p + m) file
-    part k =
-        ap (drop k) (sym (drop_at (take p file) (take m (drop p file)) p (length-take-le p file fits)) ∙ ap (drop p) (sym (take-add p m file)))
-        ∙ drop-drop k p (take (p + m) file)
+    module _ (file : List ℕ) (p : ℕ) (fits : p ≤ length file) (cs : List (ℕ × List ℕ)) {m l : ℕ}
+        (lies : Continued (drop p file) t (texts cs) m l) where
+      part : (k : ℕ) → drop k (take m (drop p file)) ≡ slice (p + k) (p + m) file
+      part k =
+          ap (drop k)
+          (sym (drop_at (take p file) (take m (drop p file)) p (length-take-le p file fits))
+          ∙ ap (drop p) (sym (take-add p m file)))
+          ∙ drop-drop k p (take (p + m) file)
 
-    -- the value before its blanks are dropped: what lies in the file from after the colon up to the end of the
-    -- last line's text
-    pub value-lies : value ++ continued (texts cs) ≡ joined (slice (p + suc (length name)) (p + m) file)
-    value-lies =
-        let c = subst (λ (r : Option (List ℕ × List ℕ)). ColonOf t r) h (colons t) in
-        ap (λ (v : List ℕ). v ++ continued (texts cs)) c.0
-        ∙ continued-joined lies (suc (length name)) c.1
-        ∙ ap joined (part (suc (length name)))
+      -- the value before its blanks are dropped: what lies in the file from after the colon up to the end of the
+      -- last line's text
+      pub value-lies : value ++ continued (texts cs) ≡ joined (slice (p + suc (length name)) (p + m) file)
+      value-lies =
+          let c = subst (λ (r : Option (List ℕ × List ℕ)). ColonOf t r) h (colons t) in
+          ap (λ (v : List ℕ). v ++ continued (texts cs)) c.0
+          ∙ continued-joined lies (suc (length name)) c.1
+          ∙ ap joined (part (suc (length name)))
 
-    -- the header that a line and those that continue it make
-    pub header-lies : (rest : List (ℕ × List ℕ)) → (group rest).text ≡ [] → group ((at, t) ∷ (cs ++ rest))
-        ≡ record {
-          headers = record {
-            at = at;
-            name = name;
-            value =
-                trim (joined (slice (p + suc (length name)) (p + m) file));
-          } ∷ (group rest).headers;
-          text = [];
-        }
-    header-lies rest e =
-        rw (b, h)
-        (rw (group-continued cs rest (each lies) e)
-        (ap (λ (v : List ℕ). record { headers = record { at = at; name = name; value = trim v } ∷ (group rest).headers; text = [] }) value-lies))
+      -- the header that a line and those that continue it make
+      pub header-lies : (rest : List (ℕ × List ℕ)) → (group rest).text ≡ [] → group ((at, t) ∷ (cs ++ rest))
+          ≡ record {
+            headers = record {
+              at = at;
+              name = name;
+              value =
+                  trim (joined (slice (p + suc (length name)) (p + m) file));
+            } ∷ (group rest).headers;
+            text = [];
+          }
+      header-lies rest e =
+          rw (b, h)
+          (rw (group-continued cs rest (each lies) e)
+          (ap (λ (v : List ℕ). record
+          { headers = record { at = at; name = name; value = trim v } ∷ (group rest).headers; text = [] })
+          value-lies))
 
 -- ---- header lines as they are read
 
 -- no refusal 5: the line continues, or has a name
-pub header-line : (limit : ℕ) (first : Bool) (s t : List ℕ) (n : ℕ) → header_line limit first s ≡ ok t n → (line s ≡ ok t n) × (malformed first t ≡ false)
+pub header-line : (limit : ℕ) (first : Bool) (s t : List ℕ) (n : ℕ) → header_line limit first s ≡ ok t n
+    → (line s ≡ ok t n) × (malformed first t ≡ false)
 unfolding header_line
 header-line limit first s t n h =
     let u = unscreen (λ t. or_malformed (refused_byte limit 0 t) (malformed first t)) (line s) t n h in
     (u.0, well (refused_byte limit 0 t) (malformed first t) u.1)
   where
-    well : (r : Option (ℕ × ℕ)) (b : Bool) → or_malformed r b ≡ none → b ≡ false
-    well (some r) b e = let z : ◌≡◌ {A = ℕ} 0 1 = cc in absurd (omega arith)
-    well none true e = let z : ◌≡◌ {A = ℕ} 0 1 = cc in absurd (omega arith)
-    well none false e = refl
+    well : (r : Option (ℕ × ℕ)) (b : Bool) → or_malformed r b ≡ None → b ≡ false
+    well (Some r) b e = cc
+    well None true e = cc
+    well None false e = refl
 
 pub header-name : (first : Bool) (x : ℕ) (t : List ℕ) → malformed first (x ∷ t) ≡ false → continues (x ∷ t) ≡ false
-    → (nv : List ℕ × List ℕ) × (split_colon (x ∷ t) ≡ some nv)
+    → (nv : List ℕ × List ℕ) × (split_colon (x ∷ t) ≡ Some nv)
 header-name first x t h b = go (split_colon (x ∷ t)) refl
   where
     named : not (some_name (split_colon (x ∷ t))) ≡ false
     named = ap (λ (z : Bool). cond z first (not (some_name (split_colon (x ∷ t))))) (sym b) ∙ h
 
-    go : (r : Option (List ℕ × List ℕ)) → split_colon (x ∷ t) ≡ r → (nv : List ℕ × List ℕ) × (split_colon (x ∷ t) ≡ some nv)
-    go none e =
+    go : (r : Option (List ℕ × List ℕ)) → split_colon (x ∷ t) ≡ r
+        → (nv : List ℕ × List ℕ) × (split_colon (x ∷ t) ≡ Some nv)
+    go None e =
         let z : ◌≡◌ {A = Bool} true false = ap (λ (r : Option (List ℕ × List ℕ)). not (some_name r)) (sym e) ∙ named in
-        let w : ◌≡◌ {A = ℕ} 0 1 = cc in
-        absurd (omega arith)
-    go (some nv) e = (nv, e)
+        cc
+    go (Some nv) e = (nv, e)
 
 -- lines that lie one after another in s from at on
 pub data Lying (s : List ℕ) : ℕ → List (ℕ × List ℕ) → Type 0 where
   done : {at : ℕ} → Lying s at []
-  next : {at n : ℕ} {t : List ℕ} {ls : List (ℕ × List ℕ)} → line (drop at s) ≡ ok t n → Lying s (at + n) ls → Lying s at ((at, t) ∷ ls)
+  next : {at n : ℕ} {t : List ℕ} {ls : List (ℕ × List ℕ)} → line (drop at s) ≡ ok t n → Lying s (at + n) ls
+      → Lying s at ((at, t) ∷ ls)
 
 -- the lines that continue the line t at at, and those after them
 pub record Taken (s : List ℕ) (at : ℕ) (t : List ℕ) (ls : List (ℕ × List ℕ)) : Type 0 where
@@ -298,7 +314,8 @@ pub record Taken (s : List ℕ) (at : ℕ) (t : List ℕ) (ls : List (ℕ × Lis
 -- where they lie from v on
 taken-at : {s : List ℕ} {at n v : ℕ} {t : List ℕ} {ls : List (ℕ × List ℕ)} → line (drop at s) ≡ ok t n → Lying s v ls
     → v ≡ at + n → Taken s at t ls
-taken-at {n = n} {t = t} h done q = record { more = []; rest = []; end = length t; size = n; both = refl; lies = alone h; after = done; fresh = tt }
+taken-at {n = n} {t = t} h done q =
+    record { more = []; rest = []; end = length t; size = n; both = refl; lies = alone h; after = done; fresh = tt }
 taken-at {s = s} {at = at} {n = n} {v = v} {t = t} h (next {n = m} {t = c} {ls = ls} e r) q =
     go (continues c) refl (taken-at {at = v} {n = m} {v = v + m} {t = c} {ls = ls} e r refl)
   where
@@ -349,7 +366,8 @@ lines-lie limit (suc f) first at s r hs n d h =
     let u = unbind (onward one) (more_lines (λ m. header_lines limit f false m) at) r hs n h in
     let c = uncount (header_line limit first r) u.val u.first (unonward one r u.val u.first u.did) in
     let l = header-line limit first r u.val.0 u.first c.0 in
-    go (λ hs k e. lines-lie limit f false (at + u.first) s (drop u.first r) hs k (sym (drop-drop u.first at s) ∙ ap (drop u.first) d) e)
+    go (λ hs k e. lines-lie limit f false (at + u.first) s (drop u.first r) hs k
+    (sym (drop-drop u.first at s) ∙ ap (drop u.first) d) e)
     u.val.0 u.val.1 u.second c.1 l.0 l.1 u.then_did
   where
     go : {k : ℕ} → ((hs : HeaderLines) (m : ℕ) → header_lines limit f false (at + k) (drop k r) ≡ ok hs m
@@ -368,7 +386,8 @@ lines-lie limit (suc f) first at s r hs n d h =
 pub fresh-text : (first : Bool) (ls : List (ℕ × List ℕ)) → Formed first ls → Fresh ls → (group ls).text ≡ []
 fresh-text first [] w h = refl
 fresh-text first ((at, []) ∷ ls) w h = absurd w
-fresh-text first ((at, x ∷ t) ∷ ls) w h = let q = header-name first x t w.0 h in header-text at (x ∷ t) q.0.0 q.0.1 h q.1 ls
+fresh-text first ((at, x ∷ t) ∷ ls) w h = let q = header-name first x t w.0 h in
+    header-text at (x ∷ t) q.0.0 q.0.1 h q.1 ls
 
 formed-rest : (first : Bool) (more rest : List (ℕ × List ℕ)) → Formed first (more ++ rest) → (b : Bool) × Formed b rest
 formed-rest first [] rest w = (first, w)
@@ -376,8 +395,9 @@ formed-rest first ((at, []) ∷ more) rest w = absurd w
 formed-rest first ((at, x ∷ t) ∷ more) rest w = formed-rest false more rest w.1
 
 -- the header that a line with a name makes with the lines that continue it, and the headers after them
-module _ (s : List ℕ) (at n : ℕ) (t : List ℕ) (name value : List ℕ) (ls : List (ℕ × List ℕ)) (h : line (drop at s) ≡ ok t n) (lying : Lying s (at + n) ls) where
-  pub header-turn : at ≤ length s → continues t ≡ false → split_colon t ≡ some (name, value) → Formed false ls
+module _ (s : List ℕ) (at n : ℕ) (t : List ℕ) (name value : List ℕ) (ls : List (ℕ × List ℕ))
+    (h : line (drop at s) ≡ ok t n) (lying : Lying s (at + n) ls) where
+  pub header-turn : at ≤ length s → continues t ≡ false → split_colon t ≡ Some (name, value) → Formed false ls
       → (w : Taken s at t ls) × (group ((at, t) ∷ ls) ≡ record {
         headers = record {
           at = at;
@@ -390,20 +410,23 @@ module _ (s : List ℕ) (at n : ℕ) (t : List ℕ) (name value : List ℕ) (ls 
   header-turn fits b c formed =
       let w = taken h lying in
       let f = formed-rest false w.more w.rest (subst (λ (z : List (ℕ × List ℕ)). Formed false z) w.both formed) in
-      let e = fresh-text f.0 w.rest f.1 w.fresh in
-      (w, ap (λ (z : List (ℕ × List ℕ)). group ((at, t) ∷ z)) w.both ∙ header-lies at t name value b c s at fits w.more w.lies w.rest e)
+      let e = fresh-text f.0 w.rest f.1 w.fresh in (
+        w,
+        ap (λ (z : List (ℕ × List ℕ)). group ((at, t) ∷ z)) w.both
+            ∙ header-lies at t name value b c s at fits w.more w.lies w.rest e,
+      )
 
 -- ---- the colon in the file
 
 module _ (file : List ℕ) (to : ℕ) (fits : to ≤ length file) (i : ℕ) (lt : i < to) (colon : get_or file i 0 ≡ 58) where
   colon-from : (n from : ℕ) → from + n ≡ i → ((j : ℕ) → from ≤ j → j < i → name_byte (get_or file j 0) ≡ true)
-      → split_colon (slice from to file) ≡ some (slice from i file, slice (i + 1) to file)
+      → split_colon (slice from to file) ≡ Some (slice from i file, slice (i + 1) to file)
   colon-from zero from e each =
       let z : from ≡ i = omega arith in
       ap (λ (k : ℕ). split_colon (slice k to file)) z
       ∙ ap split_colon (slice-cons i to file 0 lt fits)
       ∙ rw (eq-eqb (get_or file i 0) 58 colon)
-      (λ j. some (sym (ap (λ (k : ℕ). slice k i file) z ∙ slice_empty i file) j, slice (sym (add-one i) j) to file))
+      (λ j. Some (sym (ap (λ (k : ℕ). slice k i file) z ∙ slice_empty i file) j, slice (sym (add-one i) j) to file))
   colon-from (suc n) from e each =
       let x = get_or file from 0 in
       let b : name_byte x ≡ true = each from (omega arith) (omega arith) in
@@ -411,8 +434,10 @@ module _ (file : List ℕ) (to : ℕ) (fits : to ≤ length file) (i : ℕ) (lt 
       ap split_colon (slice-cons from to file 0 (omega arith) fits)
       ∙ rw (o, b)
       (ap (add_name x) (colon-from n (suc from) (omega arith) (λ j l h. each j (omega arith) h))
-      ∙ ap (λ (l : List ℕ). some (l, slice (i + 1) to file)) (sym (slice-cons from i file 0 (omega arith) (omega arith))))
+      ∙ ap (λ (l : List ℕ). Some (l, slice (i + 1) to file))
+      (sym (slice-cons from i file 0 (omega arith) (omega arith))))
 
   -- the name is what stands before the colon, and the value what stands after it
-  pub colon-split : (from : ℕ) → Run name_byte file from to i → split_colon (slice from to file) ≡ some (slice from i file, slice (i + 1) to file)
+  pub colon-split : (from : ℕ) → Run name_byte file from to i
+      → split_colon (slice from to file) ≡ Some (slice from i file, slice (i + 1) to file)
   colon-split from run = colon-from (i - from) from (omega (arith, run.low)) run.each

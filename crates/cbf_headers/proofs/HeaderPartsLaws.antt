@@ -1,8 +1,8 @@
 -- A header and the lines that continue it, as the code walks them: where each line's text ends, where its name does,
 -- and what the walk has passed. Assumes nothing.
 use mathlib.Core.Path.{◌≡◌, refl, sym, ap, ◌∙◌, subst}
-use mathlib.Core.Option.{Option, none, some}
-use mathlib.Core.Bool.{Bool, true, false, cond}
+use Rattle.std.specs.Prelude.{Option, None, Some, slice_range}
+use mathlib.Core.Bool.{Bool, true, false, cond, not}
 use mathlib.Core.List.{List, [], ◌∷◌, ◌++◌, append_assoc}
 use Prim.Native.Nat.{ℕ, zero, suc, ◌+◌, ◌-◌, ◌≤◌, ◌<◌}
 use native.Mathlib.Omega.{arith}
@@ -15,12 +15,11 @@ use Rattle.cbf_walk.proofs.ParserLaws.{bad≢ok, cut≢ok, ok-val, ok-num}
 use Rattle.cbf_format.specs.Text.{blank, textual, trim}
 use Rattle.cbf_format.specs.Lines.{end_length, line_or, line, refused_byte}
 use Rattle.cbf_format.specs.Headers.{name_byte, add_name, split_colon, malformed, or_malformed, continues, group}
-use Rattle.cbf_lines.specs.Text.{Run, in_class}
+use Rattle.cbf_lines.specs.Text.{Run}
 use Rattle.cbf_lines.specs.Line.{end_from}
-use Rattle.cbf_lines.specs.declared.text.Class.TheVariants.{Not}
 use Rattle.cbf_values.specs.Value.{joined}
 use Rattle.cbf_headers.specs.HeaderParts.{LineHere, LinesHere, Fresh, HeadersHere, HeaderParts}
-use Rattle.cbf_format.proofs.Slices.{slice-take}
+use Rattle.cbf_format.proofs.Slices.{slice-take, slice-part}
 use Rattle.cbf_lines.proofs.TextLaws.{name-no-colon, get_or-slice}
 use Rattle.cbf_lines.proofs.LineLaws.{line-good, end-moves}
 use Rattle.cbf_headers.proofs.HeadersLaws.{lines-low, lines_end, lines_none, LineLeft, lines-some, here-formed}
@@ -29,13 +28,17 @@ use Rattle.cbf_headers.proofs.GroupingLaws.{Formed, fresh-text, colon-split}
 
 -- ---- where a run ends
 
+-- no colon
+abbrev pub no_colon : ℕ → Bool
+no_colon x = not (eqb x 58)
+
 -- at the first byte that fails the test
 pub run_ends : {test : ℕ → Bool} {file : List ℕ} {from to r : ℕ} → Run test file from to r → (e : ℕ) → from ≤ e → e < to
     → ((j : ℕ) → from ≤ j → j < e → test (get_or file j 0) ≡ true) → test (get_or file e 0) ≡ false → r ≡ e
 run_ends {test} {file} {from} {to} {r} run e low lt each stop = go (ltb r e) (ltb e r) refl refl
   where
     not-both : (k : ℕ) → test (get_or file k 0) ≡ true → test (get_or file k 0) ≡ false → ⊥
-    not-both k p q = let z : true ≡ false = sym p ∙ q in let w : ◌≡◌ {A = ℕ} 0 1 = cc in omega arith
+    not-both k p q = cc
 
     go : (a b : Bool) → ltb r e ≡ a → ltb e r ≡ b → r ≡ e
     go true b p q = let l = ltb-true r e p in absurd (not-both r (each r run.low l) (run.stops (omega arith)))
@@ -44,15 +47,17 @@ run_ends {test} {file} {from} {to} {r} run e low lt each stop = go (ltb r e) (lt
 
 -- ---- a line that ends before the file does
 
-pub textual-all : (limit i : ℕ) (t : List ℕ) → refused_byte limit i t ≡ none → (j : ℕ) → j < length t → textual (get_or t j 0) ≡ true
+pub textual-all : (limit i : ℕ) (t : List ℕ) → refused_byte limit i t ≡ None → (j : ℕ) → j < length t
+    → textual (get_or t j 0) ≡ true
 textual-all limit i [] e j h = absurd (omega arith)
 textual-all limit i (x ∷ t) e j h = go (textual x) (ltb i limit) refl e (λ q k l. textual-all limit (suc i) t q k l) j h
   where
-    go : (a b : Bool) → textual x ≡ a → cond a (cond b (refused_byte limit (suc i) t) (some (2, i))) (some (3, i)) ≡ none
-        → (refused_byte limit (suc i) t ≡ none → (k : ℕ) → k < length t → textual (get_or t k 0) ≡ true)
+    go : (a b : Bool) → textual x ≡ a
+        → cond a (cond b (refused_byte limit (suc i) t) (Some (2, i))) (Some (3, i)) ≡ None
+        → (refused_byte limit (suc i) t ≡ None → (k : ℕ) → k < length t → textual (get_or t k 0) ≡ true)
         → (j : ℕ) → j < suc (length t) → textual (get_or (x ∷ t) j 0) ≡ true
-    go false b p q rest j h = let z : ◌≡◌ {A = ℕ} 0 1 = cc in absurd (omega arith)
-    go true false p q rest j h = let z : ◌≡◌ {A = ℕ} 0 1 = cc in absurd (omega arith)
+    go false b p q rest j h = cc
+    go true false p q rest j h = cc
     go true true p q rest zero h = p
     go true true p q rest (suc j) h = rest q j (omega arith)
 
@@ -66,7 +71,8 @@ pub ended : (s t : List ℕ) (n : ℕ) → line s ≡ ok t n → n < length s �
 ended [] t n e h = absurd (omega arith)
 ended (x ∷ xs) t n e h = go (eqb x 10) (eqb x 13) refl refl (line xs) (λ t n e h. ended xs t n e h) e
   where
-    go : (a b : Bool) → eqb x 10 ≡ a → eqb x 13 ≡ b → (r : Res (List ℕ)) → ((t : List ℕ) (n : ℕ) → r ≡ ok t n → n < length xs → Ended xs t n)
+    go : (a b : Bool) → eqb x 10 ≡ a → eqb x 13 ≡ b → (r : Res (List ℕ))
+        → ((t : List ℕ) (n : ℕ) → r ≡ ok t n → n < length xs → Ended xs t n)
         → line_or a b x xs r ≡ ok t n → Ended (x ∷ xs) t n
     go true b p q r rest e =
         let z : x ≡ 10 = eqb-true x 10 p in
@@ -74,7 +80,8 @@ ended (x ∷ xs) t n e h = go (eqb x 10) (eqb x 13) refl refl (line xs) (λ t n 
         subst (λ (k : ℕ × List ℕ). Ended (x ∷ xs) k.1 k.0) w
         (record {
           stops = ap textual z;
-          ends = λ at. let u : at + 0 + 1 ≡ at + 1 = omega arith in sym (ap (λ (y : ℕ). end_from (at + 0) (y ∷ xs)) z ∙ u);
+          ends = λ at. let u : at + 0 + 1 ≡ at + 1 = omega arith in
+              sym (ap (λ (y : ℕ). end_from (at + 0) (y ∷ xs)) z ∙ u);
           short = omega arith;
         })
     go false true p q r rest e =
@@ -83,7 +90,8 @@ ended (x ∷ xs) t n e h = go (eqb x 10) (eqb x 13) refl refl (line xs) (λ t n 
         subst (λ (k : ℕ × List ℕ). Ended (x ∷ xs) k.1 k.0) w
         (record {
           stops = ap textual z;
-          ends = λ at. let u : at + 0 ≡ at = omega arith in sym (ap (λ (y : ℕ). end_from (at + 0) (y ∷ xs)) z ∙ ap (λ (y : ℕ). y + end_length (hd xs)) u);
+          ends = λ at. let u : at + 0 ≡ at = omega arith in
+              sym (ap (λ (y : ℕ). end_from (at + 0) (y ∷ xs)) z ∙ ap (λ (y : ℕ). y + end_length (hd xs)) u);
           short = end-moves (hd xs);
         })
     go false false p q (bad k j) rest e = absurd (bad≢ok e)
@@ -109,27 +117,31 @@ pub record Named (t name : List ℕ) : Type 0 where
   pub colon : get_or t (length name) 0 ≡ 58
   pub short : length name < length t
 
-pub named : (t : List ℕ) (nv : List ℕ × List ℕ) → split_colon t ≡ some nv → Named t nv.0
-named [] nv e = let z : ◌≡◌ {A = ℕ} 0 1 = cc in absurd (omega arith)
+pub named : (t : List ℕ) (nv : List ℕ × List ℕ) → split_colon t ≡ Some nv → Named t nv.0
+named [] nv e = cc
 named (x ∷ t) nv e = go (eqb x 58) (name_byte x) refl refl (split_colon t) (λ nv e. named t nv e) e
   where
-    go : (a b : Bool) → eqb x 58 ≡ a → name_byte x ≡ b → (r : Option (List ℕ × List ℕ)) → ((nv : List ℕ × List ℕ) → r ≡ some nv → Named t nv.0)
-        → cond a (some ([], t)) (cond b (add_name x r) none) ≡ some nv → Named (x ∷ t) nv.0
+    go : (a b : Bool) → eqb x 58 ≡ a → name_byte x ≡ b → (r : Option (List ℕ × List ℕ))
+        → ((nv : List ℕ × List ℕ) → r ≡ Some nv → Named t nv.0)
+        → cond a (Some ([], t)) (cond b (add_name x r) None) ≡ Some nv → Named (x ∷ t) nv.0
     go true b p q r rest e =
         let w : ([], t) ≡ nv = cc in
-        subst (λ (k : List ℕ × List ℕ). Named (x ∷ t) k.0) w (record { each = λ j h. absurd (omega arith); colon = eqb-true x 58 p; short = omega arith })
-    go false false p q r rest e = let z : ◌≡◌ {A = ℕ} 0 1 = cc in absurd (omega arith)
-    go false true p q none rest e = let z : ◌≡◌ {A = ℕ} 0 1 = cc in absurd (omega arith)
-    go false true p q (some mv) rest e =
+        subst (λ (k : List ℕ × List ℕ). Named (x ∷ t) k.0) w
+        (record { each = λ j h. absurd (omega arith); colon = eqb-true x 58 p; short = omega arith })
+    go false false p q r rest e = cc
+    go false true p q None rest e = cc
+    go false true p q (Some mv) rest e =
         let w : (x ∷ mv.0, mv.1) ≡ nv = cc in
         let g = rest mv refl in
-        subst (λ (k : List ℕ × List ℕ). Named (x ∷ t) k.0) w (record { each = here g; colon = g.colon; short = omega (arith, g.short) })
+        subst (λ (k : List ℕ × List ℕ). Named (x ∷ t) k.0) w
+        (record { each = here g; colon = g.colon; short = omega (arith, g.short) })
       where
         here : Named t mv.0 → (j : ℕ) → j < suc (length mv.0) → name_byte (get_or (x ∷ t) j 0) ≡ true
         here g zero h = q
         here g (suc j) h = g.each j (omega arith)
 
-has-name : (first : Bool) (t : List ℕ) → 0 < length t → malformed first t ≡ false → continues t ≡ false → (nv : List ℕ × List ℕ) × (split_colon t ≡ some nv)
+has-name : (first : Bool) (t : List ℕ) → 0 < length t → malformed first t ≡ false → continues t ≡ false
+    → (nv : List ℕ × List ℕ) × (split_colon t ≡ Some nv)
 has-name first [] h m c = absurd (omega arith)
 has-name first (x ∷ t) h m c = header-name first x t m c
 
@@ -145,15 +157,18 @@ record Stands (file : List ℕ) (p empty : ℕ) (t : List ℕ) (n : ℕ) : Type 
   inside : p + n ≤ empty
   before : empty < length file
 
-accepted : (limit : ℕ) (first : Bool) (t : List ℕ) → or_malformed (refused_byte limit 0 t) (malformed first t) ≡ none → refused_byte limit 0 t ≡ none
+accepted : (limit : ℕ) (first : Bool) (t : List ℕ) → or_malformed (refused_byte limit 0 t) (malformed first t) ≡ None
+    → refused_byte limit 0 t ≡ None
 accepted limit first t = go (refused_byte limit 0 t)
   where
-    go : (o : Option (ℕ × ℕ)) → or_malformed o (malformed first t) ≡ none → o ≡ none
-    go none e = refl
-    go (some k) e = let z : ◌≡◌ {A = ℕ} 0 1 = cc in absurd (omega arith)
+    go : (o : Option (ℕ × ℕ)) → or_malformed o (malformed first t) ≡ None → o ≡ None
+    go None e = refl
+    go (Some k) e = cc
 
-stands : (file : List ℕ) (at limit empty after : ℕ) (first : Bool) (m : ℕ) (l : ℕ × List ℕ) (ls : List (ℕ × List ℕ)) (h : LineHere file at limit first m l)
-    → LinesHere file at limit empty after false (m + h.taken) ls → (p e : ℕ) → p ≡ at + m → e ≡ at + empty → Stands file p e l.1 h.taken
+stands : (file : List ℕ) (at limit empty after : ℕ) (first : Bool) (m : ℕ) (l : ℕ × List ℕ) (ls : List (ℕ × List ℕ))
+    (h : LineHere file at limit first m l)
+    → LinesHere file at limit empty after false (m + h.taken) ls → (p e : ℕ) → p ≡ at + m → e ≡ at + empty
+    → Stands file p e l.1 h.taken
 stands file at limit empty after first m l ls h on p e q w =
     let v = lines_end file at limit empty after false (m + h.taken) ls on in
     record {
@@ -171,12 +186,14 @@ module _ (file : List ℕ) (p empty : ℕ) (t : List ℕ) (n : ℕ) (s : Stands 
   line-text =
       let g = line-good (drop p file) in
       let e : g.0 ≡ t = ok-val (sym g.2.reads ∙ s.reads) in
-      slice-take file p (length t) (omega (arith, s.inside, s.before)) ∙ subst (λ (l : List ℕ). take (length l) (drop p file) ≡ l) e g.2.front
+      slice-take file p (length t) (omega (arith, s.inside, s.before))
+      ∙ subst (λ (l : List ℕ). take (length l) (drop p file) ≡ l) e g.2.front
 
   line-byte : (j : ℕ) → p ≤ j → j < p + length t → get_or file j 0 ≡ get_or t (j - p) 0
   line-byte j h k =
       let q : j ≡ p + (j - p) = omega arith in
-      ap (λ (i : ℕ). get_or file i 0) q ∙ sym (get_or-slice p (p + length t) file (j - p) (omega arith)) ∙ ap (λ (l : List ℕ). get_or l (j - p) 0) line-text
+      ap (λ (i : ℕ). get_or file i 0) q ∙ sym (get_or-slice p (p + length t) file (j - p) (omega arith))
+      ∙ ap (λ (l : List ℕ). get_or l (j - p) 0) line-text
 
   -- text bytes from a place of the line on end where its text does
   text-ends : (a r : ℕ) → p ≤ a → a ≤ p + length t → Run textual file a empty r → r ≡ p + length t
@@ -194,9 +211,10 @@ module _ (file : List ℕ) (p empty : ℕ) (t : List ℕ) (n : ℕ) (s : Stands 
       ∙ sym (line-ended.ends p)
 
   -- where the name ends: at the first colon
-  module _ (nv : List ℕ × List ℕ) (e : split_colon t ≡ some nv) (r : ℕ) (run : Run (in_class (Not 58)) file p empty r) where
+  module _ (nv : List ℕ × List ℕ) (e : split_colon t ≡ Some nv) (r : ℕ) (run : Run no_colon file p empty r) where
     name-byte : (j : ℕ) → p ≤ j → j < p + length nv.0 → name_byte (get_or file j 0) ≡ true
-    name-byte j h l = let g = named t nv e in ap name_byte (line-byte j h (omega (arith, g.short))) ∙ g.each (j - p) (omega arith)
+    name-byte j h l = let g = named t nv e in
+        ap name_byte (line-byte j h (omega (arith, g.short))) ∙ g.each (j - p) (omega arith)
 
     colon-byte : get_or file (p + length nv.0) 0 ≡ 58
     colon-byte =
@@ -210,29 +228,35 @@ module _ (file : List ℕ) (p empty : ℕ) (t : List ℕ) (n : ℕ) (s : Stands 
         let d = line-ended in
         let q : r ≡ p + length nv.0 =
         run_ends run (p + length nv.0) (omega arith) (omega (arith, g.short, d.short, s.inside))
-        (λ j h l. name-no-colon (get_or file j 0) (name-byte j h l)) (ap (in_class (Not 58)) colon-byte) in
+        (λ j h l. name-no-colon (get_or file j 0) (name-byte j h l)) (ap no_colon colon-byte) in
         (q, omega (arith, g.short))
 
-    name-splits : split_colon t ≡ some (slice p r file, slice (r + 1) (p + length t) file)
+    name-splits : split_colon t ≡ Some (slice p r file, slice (r + 1) (p + length t) file)
     name-splits =
         let w = name-ends in
         let c : get_or file r 0 ≡ 58 = ap (λ (i : ℕ). get_or file i 0) w.0 ∙ colon-byte in
         let d = line-ended in
         ap split_colon (sym line-text)
         ∙ colon-split file (p + length t) (omega (arith, d.short, s.inside, s.before)) r w.1 c p
-        (record { low = run.low; high = omega (arith, w.1); each = λ j h l. name-byte j h (omega (arith, w.0)); stops = λ h. ap name_byte c })
+        (record {
+          low = run.low;
+          high = omega (arith, w.1);
+          each = λ j h l. name-byte j h (omega (arith, w.0));
+          stops =
+              λ h. ap name_byte c;
+        })
 
 -- ---- the walk over a header's lines
 
 -- the lines up to next are the header's first line and lines that continue it
-pub record Walked (file : List ℕ) (from empty : ℕ) (h : HeadersHere file from empty) (colon to next : ℕ) : Type 0 where
+pub record Walked {file : List ℕ} {from empty : ℕ} (h : HeadersHere file from empty) (colon to next : ℕ) : Type 0 where
   pub text : List ℕ
   pub value : List ℕ
   pub more : List (ℕ × List ℕ)
   pub rest : List (ℕ × List ℕ)
   pub all : h.lines ≡ (h.m, text) ∷ (more ++ rest)
   pub plain : continues text ≡ false
-  pub splits : split_colon text ≡ some (slice from colon file, value)
+  pub splits : split_colon text ≡ Some (slice from colon file, value)
   pub lies : Continued (drop from file) text (texts more) (to - from) (next - from)
   pub here : LinesHere file h.at h.limit h.e h.after false (next - h.at) rest
   pub low : from ≤ colon
@@ -244,36 +268,34 @@ lines-formed : (file : List ℕ) (at limit empty after : ℕ) (first : Bool) (m 
     → LinesHere file at limit empty after first m ls → Formed first ls
 lines-formed file at limit empty after first m [] h = tt
 lines-formed file at limit empty after first m ((i, []) ∷ ls) h = absurd (let z : ⊥ = omega (arith, h.0.some_text) in z)
-lines-formed file at limit empty after first m ((i, x ∷ t) ∷ ls) h =
-    (here-formed file at limit first m (i, x ∷ t) h.0, lines-formed file at limit empty after false (m + h.0.taken) ls h.1)
+lines-formed file at limit empty after first m ((i, x ∷ t) ∷ ls) h = (
+  here-formed file at limit first m (i, x ∷ t) h.0,
+  lines-formed file at limit empty after false (m + h.0.taken) ls h.1,
+)
 
 texts-more : (more : List (ℕ × List ℕ)) (l : ℕ × List ℕ) → texts (more ++ (l ∷ [])) ≡ texts more ++ (l.1 ∷ [])
 texts-more [] l = refl
 texts-more (k ∷ more) l = ap (λ (z : List (List ℕ)). k.1 ∷ z) (texts-more more l)
 
-module _ (file : List ℕ) (from empty : ℕ) (h : HeadersHere file from empty) where
-  -- the empty line is in the file
-  pub before-end : empty < length file
-  before-end =
-      let v = lines_end file h.at h.limit h.e h.after h.first h.m h.lines h.here in
-      omega (arith, v.0, v.1, h.is_empty)
-
-  module _ (colon to next : ℕ) where
-    pub walk_first : from < empty → Run (in_class (Not 58)) file from empty colon → Run textual file colon empty to
-        → next ≡ end_from to (drop to file) → Walked file from empty h colon to next
+module _ {file : List ℕ} {from empty : ℕ} (h : HeadersHere file from empty) where
+  module _ {colon to next : ℕ} where
+    pub walk_first : from < empty → Run no_colon file from empty colon → Run textual file colon empty to
+        → next ≡ end_from to (drop to file) → Walked h colon to next
     walk_first lt colon-run text-run e = go (lines-some file h.at h.limit h.e h.after h.first h.m
         h.lines h.here (omega (arith, h.is_from, h.is_empty)))
       where
-        go : LineLeft file h.at h.limit h.e h.after h.first h.m h.lines → Walked file from empty h colon to next
+        go : LineLeft file h.at h.limit h.e h.after h.first h.m h.lines → Walked h colon to next
         go l =
             let t = l.this.1 in
             let n = l.here.taken in
             let s = stands file h.at h.limit h.e h.after h.first h.m l.this l.others l.here
             l.on from empty h.is_from h.is_empty in
             let plain : continues t ≡ false = subst (λ (ls : List (ℕ × List ℕ)). Fresh ls) l.all h.fresh in
-            let nv = has-name h.first t l.here.some_text (here-formed file h.at h.limit h.first h.m l.this l.here) plain in
+            let nv =
+            has-name h.first t l.here.some_text (here-formed file h.at h.limit h.first h.m l.this l.here) plain in
             let c = name-ends file from empty t n s nv.0 nv.1 colon colon-run in
-            let a : to ≡ from + length t = text-ends file from empty t n s colon to colon-run.low (omega (arith, c.1)) text-run in
+            let a : to ≡ from + length t =
+            text-ends file from empty t n s colon to colon-run.low (omega (arith, c.1)) text-run in
             let b : next ≡ from + n = line-ends file from empty t n s to next a e in
             let d = line-ended file from empty t n s in
             let x : length t ≡ to - from = omega arith in
@@ -295,12 +317,13 @@ module _ (file : List ℕ) (from empty : ℕ) (h : HeadersHere file from empty) 
               high = omega (arith, s.inside);
             }
 
-    module _ (w : Walked file from empty h colon to next) where
+    module _ (w : Walked h colon to next) where
       at_low : h.at ≤ next
       at_low = omega (arith, h.is_from, w.low, w.short, w.order)
 
       left : next < empty → LineLeft file h.at h.limit h.e h.after false (next - h.at) w.rest
-      left lt = lines-some file h.at h.limit h.e h.after false (next - h.at) w.rest w.here (omega (arith, at_low, h.is_empty))
+      left lt =
+          lines-some file h.at h.limit h.e h.after false (next - h.at) w.rest w.here (omega (arith, at_low, h.is_empty))
 
       -- the next line, where it stands
       next-stands : (l : LineLeft file h.at h.limit h.e h.after false (next - h.at) w.rest)
@@ -318,16 +341,17 @@ module _ (file : List ℕ) (from empty : ℕ) (h : HeadersHere file from empty) 
           ∙ ap blank (sym (line-byte file next empty l.this.1 l.here.taken s next (omega arith) (omega arith)
           ∙ ap (λ (i : ℕ). get_or l.this.1 i 0) z))
 
-      pub walk_more : next < empty → blank (get_or file next 0) ≡ true → (to' next' : ℕ) → Run textual file next empty
-          to' → next' ≡ end_from to' (drop to' file) → Walked file from empty h colon to' next'
-      walk_more lt bl to' next' run e = go (left lt)
+      pub walk_more : next < empty → blank (get_or file next 0) ≡ true → {to' next' : ℕ} → Run textual file next empty
+          to' → next' ≡ end_from to' (drop to' file) → Walked h colon to' next'
+      walk_more lt bl {to'} {next'} run e = go (left lt)
         where
-          go : LineLeft file h.at h.limit h.e h.after false (next - h.at) w.rest → Walked file from empty h colon to' next'
+          go : LineLeft file h.at h.limit h.e h.after false (next - h.at) w.rest → Walked h colon to' next'
           go l =
               let t = l.this.1 in
               let n = l.here.taken in
               let s = next-stands l in
-              let a : to' ≡ next + length t = text-ends file next empty t n s next to' (omega arith) (omega arith) run in
+              let a : to' ≡ next + length t =
+              text-ends file next empty t n s next to' (omega arith) (omega arith) run in
               let b : next' ≡ next + n = line-ends file next empty t n s to' next' a e in
               let d = line-ended file next empty t n s in
               let f : from ≤ next = omega (arith, w.low, w.short, w.order) in
@@ -344,12 +368,14 @@ module _ (file : List ℕ) (from empty : ℕ) (h : HeadersHere file from empty) 
                 rest = l.others;
                 all = w.all
                     ∙ ap (λ (ls : List (ℕ × List ℕ)). (h.m, w.text) ∷ ls)
-                    (ap (λ (ls : List (ℕ × List ℕ)). w.more ++ ls) l.all ∙ sym (append_assoc w.more (l.this ∷ []) l.others));
+                    (ap (λ (ls : List (ℕ × List ℕ)). w.more ++ ls) l.all
+                    ∙ sym (append_assoc w.more (l.this ∷ []) l.others));
                 plain = w.plain;
                 splits = w.splits;
                 lies = subst (λ (cs : List (List ℕ)). Continued (drop from file) w.text cs (to' - from)
                     (next' - from)) (sym (texts-more w.more l.this))
-                    (subst (λ (k : ℕ × ℕ). Continued (drop from file) w.text (texts w.more ++ (t ∷ [])) k.0 k.1) (λ i. (x i, y i)) v);
+                    (subst (λ (k : ℕ × ℕ). Continued (drop from file) w.text (texts w.more ++ (t ∷ [])) k.0 k.1)
+                    (λ i. (x i, y i)) v);
                 here = subst (λ (k : ℕ). LinesHere file h.at h.limit h.e h.after false k l.others) z l.on;
                 low = w.low;
                 short = omega (arith, w.short, w.order);
@@ -358,45 +384,47 @@ module _ (file : List ℕ) (from empty : ℕ) (h : HeadersHere file from empty) 
               }
 
       -- the header ends here
-      walk-done : Fresh w.rest → HeaderParts file from empty h (record { colon = colon; to = to; next = next })
+      walk-done : Fresh w.rest
+          → HeaderParts file from empty h (slice_range file from colon) (slice_range file (colon + 1) to) next
       walk-done fresh =
-          let b = before-end in
-          let x : from + suc (length (slice from colon file)) ≡ colon + 1 = omega (
-            arith,
-            w.low,
-            length-slice from
-                colon file (omega (arith, w.short, w.order, w.high)),
-          ) in
+          let b = h.inside in
+          let x : from + suc (length (slice from colon file)) ≡ colon + 1 =
+          omega (arith, w.low, length-slice from colon file (omega (arith, w.short, w.order, w.high))) in
           let y : from + (to - from) ≡ to = omega (arith, w.low, w.short) in
+          let parted : slice (from + suc (length (slice from colon file))) (from + (to - from)) file ≡ slice_range file
+          (colon + 1) to =
+          (λ i. slice (x i) (y i) file) ∙ slice-part file (colon + 1) to w.short (omega (arith, w.order, w.high)) in
           record {
             rest = w.rest;
             grouped = ap group w.all
                 ∙ header-lies h.m w.text (slice from colon file) w.value w.plain w.splits file from
                 (omega (arith, w.low, w.short, w.order, w.high)) w.more w.lies w.rest
-                (fresh-text false w.rest (lines-formed file h.at h.limit h.e h.after false (next - h.at) w.rest w.here) fresh)
+                (fresh-text false w.rest (lines-formed file h.at h.limit h.e h.after false (next - h.at) w.rest w.here)
+                fresh)
                 ∙ (λ i. record {
                   headers = record {
                     at = h.m;
-                    name = slice from colon file;
-                    value =
-                        trim (joined (slice (x i) (y i) file));
+                    name = slice-part file from colon w.low (omega (arith, w.short, w.order, w.high)) i;
+                    value = trim (joined (parted i));
                   } ∷ (group w.rest).headers;
                   text = [];
                 });
             here = w.here;
             fresh = fresh;
-            name_in = w.low;
-            value_in = w.short;
-            to_in = w.order;
+            moves = omega (arith, w.low, w.short, w.order);
             next_in = w.high;
           }
 
       -- at a line that continues nothing
-      pub walk-stop : next < empty → blank (get_or file next 0) ≡ false → HeaderParts file from empty h (record { colon = colon; to = to; next = next })
-      walk-stop lt bl = let l = left lt in walk-done (subst (λ (ls : List (ℕ × List ℕ)). Fresh ls) (sym l.all) (next-continues l ∙ bl))
+      pub walk-stop : next < empty → blank (get_or file next 0) ≡ false
+          → HeaderParts file from empty h (slice_range file from colon) (slice_range file (colon + 1) to) next
+      walk-stop lt bl = let l = left lt in
+          walk-done (subst (λ (ls : List (ℕ × List ℕ)). Fresh ls) (sym l.all) (next-continues l ∙ bl))
 
       -- at the empty line
-      pub walk_end : empty ≤ next → HeaderParts file from empty h (record { colon = colon; to = to; next = next })
+      pub walk_end : empty ≤ next
+          → HeaderParts file from empty h (slice_range file from colon) (slice_range file (colon + 1) to) next
       walk_end le =
-          let e = lines_none file h.at h.limit h.e h.after false (next - h.at) w.rest w.here (omega (arith, h.is_empty)) in
+          let e = lines_none file h.at h.limit h.e h.after false (next - h.at) w.rest w.here
+          (omega (arith, h.is_empty)) in
           walk-done (subst (λ (ls : List (ℕ × List ℕ)). Fresh ls) (sym e) tt)

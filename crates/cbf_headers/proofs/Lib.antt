@@ -2,6 +2,5 @@ pub mod HeadersLaws
 pub mod GroupingLaws
 pub mod HeaderPartsLaws
 pub mod DescribeLaws
-pub mod FoundLaws
 pub mod JudgeLaws
 pub mod SectionHeadersLaws

@@ -1,13 +1,11 @@
 -- Headers, at places of the file: for the functions that pass over them a second time, header by header.
 use Rattle.std.specs.Prelude.{◌≡◌, Bool, false, List, [], ◌∷◌, ℕ, ◌+◌, ◌-◌, ◌≤◌, ◌<◌, length, drop}
-use Rattle.std.proofs.Math.Option.{Option, none}
-use Rattle.std.proofs.Math.Seq.{slice}
+use Rattle.std.specs.Prelude.{Option, None}
 use Rattle.cbf_walk.specs.Parsers.{ok}
 use Rattle.cbf_format.specs.Text.{trim}
 use Rattle.cbf_format.specs.Lines.{line, refused_byte}
 use Rattle.cbf_format.specs.Headers.{or_malformed, malformed, continues, group}
 use Rattle.cbf_values.specs.Value.{joined}
-use Rattle.cbf_headers.specs.declared.header_parts.Parts.{Parts}
 
 -- ---- the lines
 
@@ -20,7 +18,7 @@ pub record LineHere (file : List ℕ) (at limit : ℕ) (first : Bool) (m : ℕ) 
   pub place : l.0 ≡ m
   pub taken : ℕ
   pub reads : line (drop (at + m) file) ≡ ok l.1 taken
-  pub passes : refused_header limit first l.1 ≡ none
+  pub passes : refused_header limit first l.1 ≡ None
   pub some_text : 0 < length l.1
   pub moves : 0 < taken
   pub inside : at + (m + taken) ≤ length file
@@ -37,7 +35,8 @@ pub record EmptyHere (file : List ℕ) (at m empty after : ℕ) : Type 0 where
 -- these lines, each where the line before ends, the first of them m bytes after at, and then the empty line
 abbrev pub LinesHere : List ℕ → ℕ → ℕ → ℕ → ℕ → Bool → ℕ → List (ℕ × List ℕ) → Type 0
 LinesHere file at limit empty after first m [] = EmptyHere file at m empty after
-LinesHere file at limit empty after first m (l ∷ ls) = (h : LineHere file at limit first m l) × LinesHere file at limit empty after false (m + h.taken) ls
+LinesHere file at limit empty after first m (l ∷ ls) =
+    (h : LineHere file at limit first m l) × LinesHere file at limit empty after false (m + h.taken) ls
 
 -- they start with no line that continues another
 abbrev pub Fresh : List (ℕ × List ℕ) → Type 0
@@ -59,18 +58,18 @@ pub record HeadersHere (file : List ℕ) (from empty : ℕ) : Type 0 where
   pub is_empty : empty ≡ at + e
   pub here : LinesHere file at limit e after first m lines
   pub fresh : Fresh lines
+  pub inside : empty < length file
 
--- the parts of the first of these headers, and the headers after it
-pub record HeaderParts (file : List ℕ) (from empty : ℕ) (h : HeadersHere file from empty) (r : Parts) : Type 0 where
+-- the first of these headers, and the headers after it, which start at next
+pub record HeaderParts (file : List ℕ) (from empty : ℕ) (h : HeadersHere file from empty) (name value : List ℕ)
+    (next : ℕ) : Type 0 where
   pub rest : List (ℕ × List ℕ)
   pub grouped : group h.lines
       ≡ record {
-        headers = record { at = h.m; name = slice from r.colon file; value = trim (joined (slice (r.colon + 1) r.to file)) } ∷ (group rest).headers;
+        headers = record { at = h.m; name = name; value = trim (joined value) } ∷ (group rest).headers;
         text = [];
       }
-  pub here : LinesHere file h.at h.limit h.e h.after false (r.next - h.at) rest
+  pub here : LinesHere file h.at h.limit h.e h.after false (next - h.at) rest
   pub fresh : Fresh rest
-  pub name_in : from ≤ r.colon
-  pub value_in : r.colon + 1 ≤ r.to
-  pub to_in : r.to ≤ r.next
-  pub next_in : r.next ≤ empty
+  pub moves : from < next
+  pub next_in : next ≤ empty

@@ -1,94 +1,74 @@
 // What a section's headers say of it, from the values that were found: refusal 6 for a header that is missing, and 7.
-ghost use Rattle.std.specs.Prelude.{◌≡◌, List, ℕ, ◌≤◌, ◌^◌};
-ghost use Rattle.std.proofs.Math.Option.{some};
-ghost use Rattle.cbf_pixels.specs.Uncompressed.{octets_per};
-ghost use Rattle.cbf_format.specs.Descriptions.{size_agrees, dimensions_agree, optional, found, described, verdict_of};
+ghost use Rattle.std.specs.Prelude.{◌≡◌, List, ℕ};
+ghost use Rattle.cbf_format.specs.Descriptions.{size_agrees, dimensions_agree, optional, found, verdict_of};
 ghost use Rattle.cbf_format.specs.Descriptions.{encoding_of, compression_of, type_of};
 ghost use Rattle.cbf_headers.specs.Found.{found_of, InRange};
-ghost use Rattle.cbf_headers.specs.Describe.{given_or, described_by};
+ghost use Rattle.cbf_headers.specs.Describe.{described_by, Few};
 
 use crate::found::Found;
+use cbf_answers::Reason;
 use cbf_format::{Description, Encoding, KnownHeader};
 use cbf_pixels::{Compression, ElementType};
 
-#[derive(Clone, Copy)]
-pub enum Described {
-    Missing,
-    Disagree,
-    As(Description),
-}
-
 // Whether size and elements agree.
-fn size_agrees(compression: Compression, kind: ElementType, size: u64, elements: u64) -> bool
-    requires { (size ≤ 2 ^ 32) × (elements ≤ 2 ^ 32) }
-    ensures { result ≡ size_agrees compression kind size elements }
+fn size_agrees(d: Description) -> bool
+    requires { Few d }
+    ensures { result ≡ size_agrees d.compression d.kind d.size d.elements }
 {
-    match compression {
-        Compression::Uncompressed => size == elements * cbf_pixels::octets_per(kind) as u64,
-        Compression::ByteOffset => {
-            if size < elements {
-                return false;
-            }
-            size <= 15 * elements
+    match d.compression {
+        Compression::Uncompressed => d.size == d.elements * cbf_pixels::octets_per(d.kind) as u64,
+        Compression::ByteOffset => d.elements <= d.size && d.size <= 15 * d.elements,
+    }
+}
+
+// Whether the dimensions and elements agree; 0 stands for one that is absent, as in every description.
+fn dimensions_agree(d: Description) -> bool
+    requires { Few d }
+    ensures { result ≡ dimensions_agree (optional d.fastest) (optional d.second) (optional d.third) d.elements }
+{
+    match (d.fastest, d.second, d.third) {
+        (0, 0, 0) => true,
+        (0, _, _) => false,
+        (_, 0, 0) => d.fastest == d.elements,
+        (_, 0, _) => false,
+        (_, _, 0) => d.fastest * d.second == d.elements,
+        _ => {
+            // an area of at most 2^31, so that the product fits
+            let area = d.fastest * d.second;
+            area <= d.elements && area * d.third == d.elements
         }
     }
 }
 
-// Whether the dimensions and elements agree; 0 stands for one that is absent.
-fn dimensions_agree(fastest: u64, second: u64, third: u64, elements: u64) -> bool
-    requires { (fastest ≤ 2 ^ 31) × (second ≤ 2 ^ 31) × (third ≤ 2 ^ 31) × (elements ≤ 2 ^ 31) }
-    ensures { result ≡ dimensions_agree (optional fastest) (optional second) (optional third) elements }
-{
-    if fastest == 0 {
-        if second != 0 {
-            return false;
-        }
-        return third == 0;
-    }
-    if second == 0 {
-        if third != 0 {
-            return false;
-        }
-        return fastest == elements;
-    }
-    let area = fastest * second;
-    if third == 0 {
-        return area == elements;
-    }
-    if elements < area {
-        return false;
-    }
-    area * third == elements
-}
+// The definitions hold the value of each header as a number, also where it is one of some words; these three functions
+// say what the number stands for.
 
 // The encoding of a number, 0 for BINARY.
 fn encoding_of(number: u64) -> Encoding
     ensures { result ≡ encoding_of number }
 {
-    if number == 0 {
-        return Encoding::Binary;
+    match number {
+        0 => Encoding::Binary,
+        _ => Encoding::Base64,
     }
-    Encoding::Base64
 }
 
 // The compression of a number, 0 for none.
 fn compression(number: u64) -> Compression
     ensures { result ≡ compression_of number }
 {
-    if number == 0 {
-        return Compression::Uncompressed;
+    match number {
+        0 => Compression::Uncompressed,
+        _ => Compression::ByteOffset,
     }
-    Compression::ByteOffset
 }
 
 // The element type of a number.
 fn element_type(number: u64) -> ElementType
     ensures { result ≡ type_of number }
 {
-    if number <= 1 {
-        return ElementType::U8;
-    }
     match number {
+        0..=1 => ElementType::U8,
         2 => ElementType::S8,
         3 => ElementType::U16,
         4 => ElementType::S16,
@@ -97,69 +77,29 @@ fn element_type(number: u64) -> ElementType
     }
 }
 
-// The value that is kept as one more, or another where there is none.
-fn given(kept: u64, absent: u64) -> u64
-    ensures { result ≡ given_or absent kept }
-{
-    if kept == 0 {
-        return absent;
-    }
-    kept - 1
-}
-
-// What the values say, with the encoding, the size and the elements among them.
-fn description_of(values: Found, encoding: u64, size: u64, elements: u64) -> Described
-    requires { InRange values × (size ≤ 2 ^ 31) × (elements ≤ 2 ^ 31) }
-    ensures { (fs : List (KnownHeader × ℕ)) → values ≡ found_of fs → result
-        ≡ described_by (described 0 (some encoding) (some size) (some elements) fs) }
-{
-    let by = compression(given(values.compression, 0));
-    let kind = element_type(given(values.kind, 5));
-    let fastest = given(values.fastest, 0);
-    let second = given(values.second, 0);
-    let third = given(values.third, 0);
-    if !size_agrees(by, kind, size, elements) {
-        return Described::Disagree;
-    }
-    if !dimensions_agree(fastest, second, third, elements) {
-        return Described::Disagree;
-    }
-    let transfer = encoding_of(encoding);
-    Described::As(Description {
-        encoding: transfer,
-        size: size,
-        elements: elements,
-        compression: by,
-        kind: kind,
-        id: given(values.id, 0),
-        fastest: fastest,
-        second: second,
-        third: third,
-    })
-}
-
-// What the values say.
-pub fn describe(values: Found) -> Described
+// What the values say, or why they say nothing: a needed header is missing, or the counts disagree.
+pub fn describe(values: Found) -> Result<Description, Reason>
     requires { InRange values }
     ensures { (fs : List (KnownHeader × ℕ)) → values ≡ found_of fs → result
         ≡ described_by (verdict_of 0 (found fs)) }
 {
-    let needed_encoding = values.encoding;
-    if needed_encoding == 0 {
-        return Described::Missing;
+    let encoding = values.encoding.ok_or(Reason::BadHeader)?;
+    let size = values.size.ok_or(Reason::BadHeader)?;
+    let elements = values.elements.ok_or(Reason::BadHeader)?;
+    let description = Description {
+        encoding: encoding_of(encoding),
+        size,
+        elements,
+        compression: compression(values.compression.unwrap_or(0)),
+        kind: element_type(values.kind.unwrap_or(5)),
+        id: values.id.unwrap_or(0),
+        fastest: values.fastest.unwrap_or(0),
+        second: values.second.unwrap_or(0),
+        third: values.third.unwrap_or(0),
+    };
+    if size_agrees(description) && dimensions_agree(description) {
+        Ok(description)
+    } else {
+        Err(Reason::CountsDisagree)
     }
-    let needed_size = values.size;
-    if needed_size == 0 {
-        return Described::Missing;
-    }
-    let needed_elements = values.elements;
-    if needed_elements == 0 {
-        return Described::Missing;
-    }
-    description_of(
-        values,
-        needed_encoding - 1,
-        needed_size - 1,
-        needed_elements - 1,
-    )
 }

@@ -1,5 +1,5 @@
 // The values of the known headers, over the headers in file order.
-ghost use Rattle.std.specs.Prelude.{[]};
+ghost use Rattle.std.specs.Prelude.{◌≡◌, [], IfOk};
 ghost use Rattle.cbf_format.specs.Headers.{group};
 ghost use Rattle.cbf_format.specs.Descriptions.{judge as judge_of};
 ghost use Rattle.cbf_headers.specs.Found.{InRange};
@@ -7,58 +7,29 @@ ghost use Rattle.cbf_headers.specs.HeaderParts.{HeadersHere};
 ghost use Rattle.cbf_headers.specs.Judge.{judged_at};
 
 use crate::found::Found;
-use crate::{found, header_parts};
-use cbf_values::header::Name;
-use cbf_values::value::Whole;
+use crate::header_parts;
 use cbf_values::{header, known_value};
 
-// Whether a header is refused, since it is repeated or has a bad value, and its place; else the values.
-#[derive(Clone, Copy)]
-pub struct Judged {
-    pub refused: bool,
-    pub place: usize,
-    pub values: Found,
-}
-
-pub fn judge_headers(file: &[u8], from: usize, empty: usize) -> Judged
+// The values, or the place of a header that is refused, since it is repeated or has a bad value.
+pub fn judge_headers(file: &[u8], from: usize, empty: usize) -> Result<Found, usize>
     requires { HeadersHere file.now from empty }
-    ensures { ((h : HeadersHere file.now from empty) → judged_at h.at result
-        (judge_of (group h.lines).headers [])) × InRange result.values }
+    ensures judged { (h : HeadersHere file.now from empty) → result
+        ≡ judged_at h.at (judge_of (group h.lines).headers []) }
+    ensures range { IfOk result InRange }
 {
-    let mut values = found::nothing();
+    let mut values = Found::nothing();
     let mut at = from;
+    // no `for`: how far a turn goes is known when it is over
     while at < empty {
-        let parts = header_parts::header_parts(file, at, empty);
-        let colon = parts.colon;
-        let to = parts.to;
-        let name = header::known(file, at, colon);
-        if let Name::Known(known) = name {
-            if found::field(values, known) != 0 {
-                return Judged {
-                    refused: true,
-                    place: at,
-                    values: values,
-                };
+        let header = header_parts::header_parts(file, at, empty);
+        if let Some(known) = header::known(header.name) {
+            if values.get(known).is_some() {
+                return Err(at);
             }
-            let v = known_value::known_value(file, known, colon + 1, to);
-            match v {
-                Whole::Bad => {
-                    return Judged {
-                        refused: true,
-                        place: at,
-                        values: values,
-                    };
-                }
-                Whole::Number(n) => {
-                    values = found::with_field(values, known, n + 1);
-                }
-            }
+            let value = known_value::known_value(header.value, known).ok_or(at)?;
+            values = values.with(known, value);
         }
-        at = parts.next;
+        at = header.next;
     }
-    Judged {
-        refused: false,
-        place: empty,
-        values: values,
-    }
+    Ok(values)
 }

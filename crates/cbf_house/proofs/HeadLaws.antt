@@ -1,11 +1,12 @@
 -- Pieces written one after the other, the pieces of a section's head, and their lengths. Assumes nothing.
 use mathlib.Core.Path.{◌≡◌, refl, ap, ◌∙◌, sym}
-use mathlib.Core.Option.{Option, none, some}
+use Rattle.std.specs.Prelude.{Option, None, Some}
 use mathlib.Core.List.{List, [], ◌∷◌, ◌++◌, append_assoc, append-nil}
 use Prim.Native.Nat.{ℕ, zero, suc, ◌+◌, ◌≤◌, ◌<◌}
 use native.Mathlib.Omega.{arith}
-use lib.ListN.{length, length-append}
-use lib.Seq.{length-sets}
+use lib.ListN.{length, length-append, drop, get_or}
+use lib.Seq.{length-sets, sets, drop-cons}
+use Rattle.std.proofs.lemmas.List.{drop_all}
 use Rattle.cbf_pixels.specs.declared.ElementType.{ElementType}
 use Rattle.cbf_pixels.specs.declared.ElementType.TheVariants.{U8, S8, U16, S16, U32, S32}
 use Rattle.cbf_format.specs.Text.{bytes}
@@ -17,11 +18,73 @@ use Rattle.cbf_format.proofs.ListingLaws.{digits-short}
 use Rattle.cbf_format.specs.Values.{type_words}
 use Rattle.cbf_format.specs.House.{ended, ended_lines, number_line, house_lines}
 use Rattle.cbf_write.proofs.PutLaws.{Put, put_both}
-use Rattle.cbf_house.specs.Head.{head_text, line_text}
+use Rattle.cbf_house.specs.Head.{head_text, line_text, text_of, texts_of}
+use Rattle.cbf_house.specs.declared.head.Piece.{Piece}
+use Rattle.cbf_house.specs.declared.head.Piece.TheVariants.{Text}
+use native.Mathlib.Numerals.{add-one}
 
--- ---- pieces, written one after the other
+-- ---- a text, written part by part
 
-abbrev pub joined : List (List ℕ) → List ℕ
+-- of a text that fits into old from at on, all but its end rest is written: r is the place after it
+pub record Written (old : List ℕ) (at : ℕ) (text rest : List ℕ) (r : ℕ) (new : List ℕ) : Type 0 where
+  pub done : List ℕ
+  pub whole : text ≡ done ++ rest
+  pub put : Put old at done r new
+  pub fits : at + length text ≤ length old
+
+module _ {old : List ℕ} {at : ℕ} {text : List ℕ} where
+  pub written_none : at + length text ≤ length old → Written old at text text at old
+  written_none h = record { done = []; whole = refl; put = (omega arith, refl); fits = h }
+
+  module _ {r : ℕ} {new rest : List ℕ} (w : Written old at text rest r new) where
+    pub written-length : length new ≡ length old
+    written-length = ap length w.put.1 ∙ length-sets old at w.done
+
+    pub written_all : rest ≡ [] → Put old at text r new
+    written_all e = rw (w.whole, e, append-nil w.done) w.put
+
+    -- the next part
+    module _ (p ps : List ℕ) (e : rest ≡ p ++ ps) where
+      pub next_fits : r + length p ≤ length new
+      next_fits =
+          omega (arith, w.fits, w.put.0, ap length w.whole, length-append w.done rest, ap length e, length-append p ps, written-length)
+
+      pub written-more : {s : ℕ} {out : List ℕ} → s ≡ r + length p → out ≡ sets new r p → Written old at text ps s out
+      written-more n o =
+          record {
+            done = w.done ++ p;
+            whole = w.whole ∙ ap (λ (l : List ℕ). w.done ++ l) e ∙ sym (append_assoc w.done p ps);
+            put = put_both old at w.done p w.put (n, o);
+            fits = w.fits;
+          }
+
+-- ---- a line with a number
+
+pub optional-none : (n : ℕ) → n ≡ 0 → optional n ≡ None
+optional-none n e = rw e refl
+
+module _ (name : List ℕ) where
+  pub no_line : line_text name None ≡ []
+  unfolding ended_lines
+  no_line = refl
+
+  pub line-parts : (n : ℕ) → line_text name (Some n) ≡ name ++ (printed n ++ (13 ∷ 10 ∷ []))
+  unfolding ended_lines
+  line-parts n = append-nil (ended (name ++ printed n)) ∙ append_assoc name (printed n) (13 ∷ 10 ∷ [])
+
+  pub line-length : (n : ℕ) → length (line_text name (Some n)) ≡ length name + length (printed n) + 2
+  line-length n = omega (arith, ap length (line-parts n), length-append name (printed n ++ (13 ∷ 10 ∷ [])), length-append (printed n) (13 ∷ 10 ∷ []))
+
+  -- a line before others, and what follows them
+  line_first : (o : Option ℕ) (ls : List (List ℕ)) (z : List ℕ) → ended_lines (number_line name o ls) ++ z ≡ line_text name o ++ (ended_lines ls ++ z)
+  unfolding ended_lines
+  line_first None ls z = refl
+  line_first (Some n) ls z = append_assoc (ended (name ++ printed n)) (ended_lines ls) z ∙ ap (λ (l : List ℕ). l
+      ++ (ended_lines ls ++ z)) (sym (append-nil (ended (name ++ printed n))))
+
+-- ---- the pieces of the head
+
+abbrev joined : List (List ℕ) → List ℕ
 joined [] = []
 joined (p ∷ ps) = p ++ joined ps
 
@@ -33,71 +96,24 @@ joined_length : (ps : List (List ℕ)) → length (joined ps) ≡ lengths ps
 joined_length [] = refl
 joined_length (p ∷ ps) = omega (arith, length-append p (joined ps), joined_length ps)
 
--- of a text that fits into old from at on, all but the pieces rest is written: r is the place after it
-pub record Written (old : List ℕ) (at : ℕ) (text : List ℕ) (rest : List (List ℕ)) (r : ℕ) (new : List ℕ) : Type 0 where
-  pub done : List ℕ
-  pub whole : text ≡ done ++ joined rest
-  pub put : Put old at done r new
-  pub fits : at + length text ≤ length old
+-- the texts of the pieces that are left, with one of them first
+pub texts-more : (ps : List Piece) (k : ℕ) (d : Piece) → k < length ps
+    → texts_of (drop k ps) ≡ text_of (get_or ps k d) ++ texts_of (drop (k + 1) ps)
+unfolding texts_of
+texts-more ps k d h = rw (add-one, drop-cons ps k d) refl
 
-module _ {old : List ℕ} {at : ℕ} {text : List ℕ} where
-  pub written_none : (ps : List (List ℕ)) → text ≡ joined ps → at + length text ≤ length old → Written old at text ps at old
-  written_none ps e h = record { done = []; whole = e; put = (omega arith, refl); fits = h }
+-- what a list of pieces has past its end
+abbrev pub no_piece : Piece
+no_piece = Text (record { ref_ptr = (0, 0); now = [] })
 
-  module _ {r : ℕ} {new : List ℕ} where
-    pub written-length : {ps : List (List ℕ)} → Written old at text ps r new → length new ≡ length old
-    written-length w = ap length w.put.1 ∙ length-sets old at w.done
+pub texts-length : (ps : List Piece) (k : ℕ) → k < length ps
+    → length (texts_of (drop k ps)) ≡ length (text_of (get_or ps k no_piece)) + length (texts_of (drop (k + 1) ps))
+texts-length ps k h =
+    ap length (texts-more ps k no_piece h) ∙ length-append (text_of (get_or ps k no_piece)) (texts_of (drop (k + 1) ps))
 
-    pub next_fits : {p : List ℕ} {ps : List (List ℕ)} → Written old at text (p ∷ ps) r new → r + length p ≤ length new
-    next_fits {p} {ps} w =
-        omega (arith, w.fits, w.put.0, ap length w.whole, length-append w.done (p ++ joined ps), length-append p (joined ps), written-length w)
-
-    pub written-more : {p : List ℕ} {ps : List (List ℕ)} {s : ℕ} {out : List ℕ} → Written old at text (p ∷ ps) r new
-        → Put new r p s out → Written old at text ps s out
-    written-more {p} {ps} w q =
-        record {
-          done = w.done ++ p;
-          whole = w.whole ∙ sym (append_assoc w.done p (joined ps));
-          put =
-              put_both old at w.done p w.put q;
-          fits = w.fits;
-        }
-
-    pub written_all : Written old at text [] r new → Put old at text r new
-    written_all w = rw (w.whole, append-nil w.done) w.put
-
--- ---- a line with a number
-
-pub optional-none : (n : ℕ) → n ≡ 0 → optional n ≡ none
-optional-none n e = rw e refl
-
-pub optional-some : (n : ℕ) → 0 < n → optional n ≡ some n
-optional-some zero h = absurd (omega arith)
-optional-some (suc n) h = refl
-
-module _ (name : List ℕ) where
-  pub no_line : line_text name none ≡ []
-  unfolding ended_lines
-  no_line = refl
-
-  abbrev pub line_pieces : ℕ → List (List ℕ)
-  line_pieces n = name ∷ printed n ∷ (13 ∷ 10 ∷ []) ∷ []
-
-  pub line-pieces : (n : ℕ) → line_text name (some n) ≡ joined (line_pieces n)
-  unfolding ended_lines
-  line-pieces n = append-nil (ended (name ++ printed n)) ∙ append_assoc name (printed n) (13 ∷ 10 ∷ [])
-
-  pub line-length : (n : ℕ) → length (line_text name (some n)) ≡ length name + length (printed n) + 2
-  line-length n = omega (arith, ap length (line-pieces n), length-append name (printed n ++ (13 ∷ 10 ∷ [])), length-append (printed n) (13 ∷ 10 ∷ []))
-
-  -- a line before others, and what follows them
-  line_first : (o : Option ℕ) (ls : List (List ℕ)) (z : List ℕ) → ended_lines (number_line name o ls) ++ z ≡ line_text name o ++ (ended_lines ls ++ z)
-  unfolding ended_lines
-  line_first none ls z = refl
-  line_first (some n) ls z = append_assoc (ended (name ++ printed n)) (ended_lines ls) z ∙ ap (λ (l : List ℕ). l
-      ++ (ended_lines ls ++ z)) (sym (append-nil (ended (name ++ printed n))))
-
--- ---- the pieces of the head
+pub texts-none : (ps : List Piece) (k : ℕ) → length ps ≤ k → texts_of (drop k ps) ≡ []
+unfolding texts_of
+texts-none ps k h = ap texts_of (drop_all k ps h)
 
 -- a text and three lines before others, and what follows them
 four-first : (o k l m : List ℕ) (ls : List (List ℕ)) (z : List ℕ)
@@ -159,8 +175,8 @@ module _ (s : Texts) (t : List ℕ) (size elements : ℕ) (i p q r : Option ℕ)
   abbrev pieces : List (List ℕ)
   pieces =
       s.boundary
-      ∷ start ∷ line_text s.size_name (some size) ∷ line_text s.id_name i ∷ s.type_start ∷ t ∷ after-type ∷
-      line_text s.elements_name (some elements) ∷ line_text s.fastest_name p ∷ line_text s.second_name q
+      ∷ start ∷ line_text s.size_name (Some size) ∷ line_text s.id_name i ∷ s.type_start ∷ t ∷ after-type ∷
+      line_text s.elements_name (Some elements) ∷ line_text s.fastest_name p ∷ line_text s.second_name q
       ∷ line_text s.third_name r
       ∷ s.end
       ∷ []
@@ -169,9 +185,9 @@ module _ (s : Texts) (t : List ℕ) (size elements : ℕ) (i p q r : Option ℕ)
       ended s.boundary
       ++ (ended_lines
       (s.content ∷ s.conversions ∷ s.encoding
-      ∷ number_line s.size_name (some size)
+      ∷ number_line s.size_name (Some size)
       (number_line s.id_name i
-      ((s.type_start ++ (t ++ s.type_end)) ∷ s.order ∷ number_line s.elements_name (some elements)
+      ((s.type_start ++ (t ++ s.type_end)) ∷ s.order ∷ number_line s.elements_name (Some elements)
       (number_line s.fastest_name p (number_line s.second_name q (number_line s.third_name r []))))))
       ++ s.end)
       ≡ joined pieces
@@ -179,18 +195,18 @@ module _ (s : Texts) (t : List ℕ) (size elements : ℕ) (i p q r : Option ℕ)
   text-pieces =
       let l3 = number_line s.second_name q (number_line s.third_name r []) in
       let l2 = number_line s.fastest_name p l3 in
-      let l1 = number_line s.elements_name (some elements) l2 in
+      let l1 = number_line s.elements_name (Some elements) l2 in
       let l0 = (s.type_start ++ (t ++ s.type_end)) ∷ s.order ∷ l1 in
-      four-first s.boundary s.content s.conversions s.encoding (number_line s.size_name (some size) (number_line s.id_name i l0)) s.end
+      four-first s.boundary s.content s.conversions s.encoding (number_line s.size_name (Some size) (number_line s.id_name i l0)) s.end
       ∙ ap (λ (w : List ℕ). s.boundary ++ (start ++ w))
-      (line_first s.size_name (some size) (number_line s.id_name i l0) s.end
-      ∙ ap (λ (w : List ℕ). line_text s.size_name (some size) ++ w)
+      (line_first s.size_name (Some size) (number_line s.id_name i l0) s.end
+      ∙ ap (λ (w : List ℕ). line_text s.size_name (Some size) ++ w)
       (line_first s.id_name i l0 s.end
       ∙ ap (λ (w : List ℕ). line_text s.id_name i ++ w)
       (type-first s.type_start t s.type_end s.order l1 s.end
       ∙ ap (λ (w : List ℕ). s.type_start ++ (t ++ (after-type ++ w)))
-      (line_first s.elements_name (some elements) l2 s.end
-      ∙ ap (λ (w : List ℕ). line_text s.elements_name (some elements) ++ w)
+      (line_first s.elements_name (Some elements) l2 s.end
+      ∙ ap (λ (w : List ℕ). line_text s.elements_name (Some elements) ++ w)
       (line_first s.fastest_name p l3 s.end
       ∙ ap (λ (w : List ℕ). line_text s.fastest_name p ++ w)
       (line_first s.second_name q (number_line s.third_name r []) s.end
@@ -243,8 +259,8 @@ type-short S32 = omega arith
 -- ---- how long a head is at most
 
 line-short : (name : List ℕ) (n : Option ℕ) → length (line_text name n) ≤ length name + 22
-line-short name none = omega (arith, ap length (no_line name))
-line-short name (some n) = omega (arith, line-length name n, digits-short 20 n)
+line-short name None = omega (arith, ap length (no_line name))
+line-short name (Some n) = omega (arith, line-length name n, digits-short 20 n)
 
 pub head-short : (d : Description) (size : ℕ) → length (head_text d size) ≤ 533
 head-short d size =

@@ -1,6 +1,6 @@
 -- The pieces of a span in house form, and its length. Assumes nothing.
 use mathlib.Core.Path.{◌≡◌, ap}
-use mathlib.Core.List.{List, [], ◌∷◌, ◌++◌, append_assoc, append-nil}
+use mathlib.Core.List.{List, [], ◌∷◌, ◌++◌, append_assoc}
 use Prim.Native.Nat.{ℕ, ◌+◌, ◌≤◌}
 use native.Mathlib.Omega.{arith}
 use lib.ListN.{length, length-append}
@@ -9,27 +9,24 @@ use Rattle.cbf_format.specs.Sections.{opening, closing, marker}
 use Rattle.cbf_format.specs.House.{ended, ended_lines, house_lines, house}
 use Rattle.cbf_format.proofs.HouseSections.{length-house}
 use Rattle.cbf_house.specs.Head.{head_text}
-use Rattle.cbf_house.proofs.HeadLaws.{joined, head-short}
+use Rattle.cbf_house.proofs.HeadLaws.{head-short}
 
--- the head, the octets, a line end and the closing boundary
-abbrev pub span_pieces : Description → ℕ → List ℕ → List (List ℕ)
-span_pieces d size os = head_text d size ∷ os ∷ (13 ∷ 10 ∷ []) ∷ closing ∷ []
-
-four-pieces : (o e m os c : List ℕ)
+four-parts : (o e m os c : List ℕ)
     → o ++ (e ++ (13 ∷ 10 ∷ (m ++ (os ++ (13 ∷ 10 ∷ c)))))
-    ≡ (o ++ (e ++ (13 ∷ 10 ∷ m))) ++ (os ++ (13 ∷ 10 ∷ (c ++ [])))
-four-pieces o e m os c = simp (append_assoc, append-nil)
+    ≡ (o ++ (e ++ (13 ∷ 10 ∷ m))) ++ (os ++ (13 ∷ 10 ∷ c))
+four-parts o e m os c = simp append_assoc
 
 module _ (d : Description) {size : ℕ} (os : List ℕ) (e : size ≡ length os) where
-  pub span-pieces : house d os ≡ joined (span_pieces d size os)
+  -- the head, the octets, a line end and the closing boundary
+  pub span-parts : house d os ≡ head_text d size ++ (os ++ ((13 ∷ 10 ∷ []) ++ closing))
   unfolding house head_text
-  span-pieces = rw e (four-pieces (ended opening) (ended_lines (house_lines (length os) d)) marker os closing)
+  span-parts = rw e (four-parts (ended opening) (ended_lines (house_lines (length os) d)) marker os closing)
 
   pub span-size : length (house d os) ≡ length (head_text d size) + size + 33
   span-size =
       let h = head_text d size in
-      let c : List ℕ = 13 ∷ 10 ∷ (closing ++ []) in
-      omega (arith, e, ap length span-pieces, length-append h (os ++ c), length-append os c)
+      let c : List ℕ = 13 ∷ 10 ∷ closing in
+      omega (arith, e, ap length span-parts, length-append h (os ++ c), length-append os c)
 
 -- how long a span is at most
 pub house-short : (d : Description) (os : List ℕ) → length (house d os) ≤ 566 + length os

@@ -2,16 +2,16 @@
 -- the file on; BASE64 data is good text. Assumes nothing.
 use mathlib.Core.Path.{◌≡◌, refl, sym, ap, ◌∙◌, subst}
 use mathlib.Core.Bool.{Bool, true, false, not, ◌&&◌, cond, true≢false}
-use mathlib.Core.Logic.{◌⊎◌, ⊎_elim}
-use mathlib.Core.Option.{none, some, some-ne-none}
+use Rattle.std.specs.Prelude.{None, Some}
+use Rattle.std.proofs.lemmas.Option.{none-some}
 use mathlib.Core.List.{List, [], ◌∷◌}
 use Prim.Native.Nat.{ℕ, zero, suc, ◌+◌, ◌-◌, ◌≤◌, ◌<◌}
 use native.Mathlib.Numerals.{add-one}
 use native.Mathlib.Omega.{arith}
 use lib.Dec.{leb, ltb, eqb}
-use borrow.Author.Tests.{lt-ltb, le-ltb, leb-true, ltb-true, ltb-false, eqb-true}
-use lib.ListN.{length, get_or, set}
-use lib.Seq.{sets, slice, slice_empty, slice-cons, get_or-drop}
+use borrow.Author.Tests.{leb-true, ltb-true, ltb-false, eqb-true}
+use lib.ListN.{length, take, drop, get_or, set, length-drop}
+use lib.Seq.{sets, slice, slice_empty, slice-cons, drop-cons, drop-length, length-take-le, get_or-take, get_or-drop}
 use Rattle.cbf_walk.specs.Parsers.{ok, hd}
 use Rattle.cbf_walk.proofs.ParserLaws.{ok-num}
 use Rattle.cbf_format.specs.declared.Symbol.{Symbol}
@@ -25,7 +25,7 @@ use Rattle.cbf_format.proofs.LineTame.{unadd, and-true}
 use Rattle.cbf_lines.specs.Text.{is_letter}
 use Rattle.cbf_lines.proofs.TextLaws.{tests_agree}
 use Rattle.cbf_letters.specs.Letters.{add_six, sixes}
-use Rattle.cbf_letters.specs.Octets.{text_byte}
+use Rattle.cbf_letters.specs.Octets.{text_byte, LettersOnly}
 use Rattle.cbf_letters.proofs.SixesLaws.{letters-by, base64-letters}
 
 -- ---- one byte
@@ -38,13 +38,6 @@ letter-test b h t = rw t at (tests_agree (λ (x : ℕ). text_byte x && (leb 43 x
 -- the tests that lead from a letter to its number
 abbrev pub lowered : ℕ → ℕ → ℕ → ℕ → ℕ
 lowered least b d n = cond (ltb least b) (n - d) n
-
--- a number that a test lowers by d or leaves
-pub by-test : (least b d n : ℕ) {next : ℕ} {A B : Type 0} → A ⊎ B → (A → (least < b) × (next ≡ n - d)) → (B → (b ≤ least) × (next ≡ n))
-    → (next ≡ lowered least b d n) × (n ≤ next + d)
-by-test least b d n came took left =
-    ⊎_elim (λ w. let s = took w in (rw (lt-ltb least b s.0) s.1, omega (arith, s.1)))
-    (λ w. let s = left w in (rw (le-ltb least b s.0) s.1, omega (arith, s.1))) came
 
 abbrev pub number_of : ℕ → ℕ
 number_of b = lowered 96 b 6 (lowered 64 b 69 (lowered 47 b 12 (lowered 46 b 3 (b + 19))))
@@ -83,9 +76,6 @@ module _ {P : ℕ → Type 0} where
       go true p = a i h (ltb-true i m p)
       go false p = b i (ltb-false i m p) k
 
-  pub each_next : {from m : ℕ} → ((i : ℕ) → from ≤ i → i < m → P i) → P m → (i : ℕ) → from ≤ i → i < m + 1 → P i
-  each_next {m = m} a p = each-then a (λ i h k. let q : m ≡ i = omega arith in subst P q p)
-
 -- ---- the numbers of a text, from its first byte on
 
 add_none : (s : Symbol) (l : List ℕ) → is_letter s ≡ false → add_six s l ≡ l
@@ -112,27 +102,40 @@ module _ (file : List ℕ) (at to : ℕ) (h : at < to) (fits : to ≤ length fil
   sixes-other e = sixes-first ∙ add_none (symbol (get_or file at 0)) (sixes (slice (at + 1) to file)) e
 
 -- numbers written up to j, and those of the letters that are left, to be written from there on
-abbrev pub finished : List ℕ → ℕ → ℕ → List ℕ → ℕ → List ℕ
-finished file at n numbers j = sets numbers j (sixes (slice (at + j) (at + n) file))
+abbrev pub finished : List ℕ → List ℕ → ℕ → List ℕ
+finished text numbers j = sets numbers j (sixes (drop j text))
 
-pub finished-next : (file numbers : List ℕ) (at n j r : ℕ) → j < n → at + n ≤ length file → symbol (get_or file (at + j) 0) ≡ Letter r
-    → finished file at n (set numbers j r) (j + 1) ≡ finished file at n numbers j
-finished-next file numbers at n j r h fits e =
-    let q : at + (j + 1) ≡ at + j + 1 = omega arith in
-    rw (q, add-one j, sixes-letter file (at + j) (at + n) (omega arith) fits r e)
+pub finished-next : (text numbers : List ℕ) (j r : ℕ) → j < length text → symbol (get_or text j 0) ≡ Letter r
+    → finished text (set numbers j r) (j + 1) ≡ finished text numbers j
+unfolding sixes
+finished-next text numbers j r h e = rw (add-one j, drop-cons text j 0 h, e) refl
+
+pub finished-all : (text numbers : List ℕ) (j : ℕ) → j ≡ length text → finished text numbers j ≡ numbers
+unfolding sixes
+finished-all text numbers j e = rw (e, drop-length text) refl
+
+-- ---- letters of a block of a text
+
+pub block-letters : (file : List ℕ) (at to : ℕ) → at ≤ to → to ≤ length file
+    → LettersOnly (take (to - at) (drop at file)) 0 (length (take (to - at) (drop at file))) → LettersOnly file at to
+block-letters file at to h g only i k m =
+    let l = length-take-le (to - at) (drop at file) (omega (arith, length-drop at file)) in
+    let e : at + (i - at) ≡ i = omega arith in
+    let s = get_or-take (to - at) (drop at file) (i - at) 0 (omega arith) in
+    rw (s, get_or-drop at file (i - at) 0, e) at (only (i - at) (omega arith) (omega (arith, l)))
 
 -- ---- BASE64 data is good text
 
 -- a line that was not refused has no other byte
-unrefused : (limit k x : ℕ) (t : List ℕ) → refused_symbol limit k (x ∷ t) ≡ none → (is_other (symbol x) ≡ false) × (refused_symbol limit (suc k) t ≡ none)
+unrefused : (limit k x : ℕ) (t : List ℕ) → refused_symbol limit k (x ∷ t) ≡ None → (is_other (symbol x) ≡ false) × (refused_symbol limit (suc k) t ≡ None)
 unrefused limit k x t = go (textual x) (ltb k limit) (is_other (symbol x))
   where
-    go : (a b o : Bool) → cond a (cond b (cond o (some (10, k)) (refused_symbol limit (suc k) t)) (some (2, k))) (some (3, k)) ≡ none
-        → (o ≡ false) × (refused_symbol limit (suc k) t ≡ none)
-    go true true true e = absurd (some-ne-none (10, k) e)
+    go : (a b o : Bool) → cond a (cond b (cond o (Some (10, k)) (refused_symbol limit (suc k) t)) (Some (2, k))) (Some (3, k)) ≡ None
+        → (o ≡ false) × (refused_symbol limit (suc k) t ≡ None)
+    go true true true e = absurd (none-some (10, k) (sym e))
     go true true false e = (refl, e)
-    go true false o e = absurd (some-ne-none (2, k) e)
-    go false b o e = absurd (some-ne-none (3, k) e)
+    go true false o e = absurd (none-some (2, k) (sym e))
+    go false b o e = absurd (none-some (3, k) (sym e))
 
 -- the first n bytes are of good text
 abbrev GoodTo : ℕ → List ℕ → Type 0
@@ -145,7 +148,7 @@ one_more_lem : (x n : ℕ) (s : List ℕ) → text_byte x ≡ true → GoodTo n 
 one_more_lem x n s e g zero h = e
 one_more_lem x n s e g (suc i) h = g i (omega arith)
 
-line-good : (limit k : ℕ) (s t : List ℕ) (n : ℕ) → line s ≡ ok t n → refused_symbol limit k t ≡ none → GoodTo n s
+line-good : (limit k : ℕ) (s t : List ℕ) (n : ℕ) → line s ≡ ok t n → refused_symbol limit k t ≡ None → GoodTo n s
 unfolding symbol
 line-good limit k [] t n e r = subst (λ (m : ℕ). GoodTo m []) (ok-num e) (no_byte [])
 line-good limit k (x ∷ s) t n e r = go (eqb x 10) (eqb x 13) refl refl e (λ t n e r. line-good limit (suc k) s t n e r)
@@ -159,7 +162,7 @@ line-good limit k (x ∷ s) t n e r = go (eqb x 10) (eqb x 13) refl refl e (λ t
         by false p = one_more_lem 13 0 (y ∷ r) refl (no_byte (y ∷ r))
 
     go : (u v : Bool) → eqb x 10 ≡ u → eqb x 13 ≡ v → line_or u v x s (line s) ≡ ok t n
-        → ((t : List ℕ) (n : ℕ) → line s ≡ ok t n → refused_symbol limit (suc k) t ≡ none → GoodTo n s) → GoodTo n (x ∷ s)
+        → ((t : List ℕ) (n : ℕ) → line s ≡ ok t n → refused_symbol limit (suc k) t ≡ None → GoodTo n s) → GoodTo n (x ∷ s)
     go true v p p' h ih = rw (← (ok-num h), eqb-true x 10 p) (one_more_lem 10 0 s refl (no_byte s))
     go false true p p' h ih = rw (← (ok-num h), eqb-true x 13 p') (after_13 s)
     go false false p p' h ih =

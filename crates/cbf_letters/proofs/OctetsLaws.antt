@@ -114,6 +114,11 @@ module _ {file : List ℕ} {to : ℕ} where
         room = omega (arith, q.room, decodes-length p);
       }
 
+  -- up to the next letter nothing more is decoded
+  pub decodes-past : {at : ℕ} {out : List ℕ} {from : ℕ} {mid : List ℕ} {at' k at'' : ℕ} → Decodes file at to out from mid at' k
+      → at' ≤ at'' → at'' ≤ to → sixes (slice at' to file) ≡ sixes (slice at'' to file) → Decodes file at to out from mid at'' k
+  decodes-past d h m e = decodes-both d (decodes-none h m (omega (arith, d.room, decodes-length d)) e)
+
   -- a run of no letters
   pub decodes-still : {at : ℕ} {out : List ℕ} {from : ℕ} {new : List ℕ} (n : ℕ) → n ≡ 0
       → Decodes file at to out from new (at + n) (from + n / 4 * 3)

@@ -5,7 +5,8 @@ use Prim.Native.Nat.{ℕ, zero, suc, ◌+◌, ◌*◌, ◌-◌, ◌/◌, ◌%◌
 use Rattle.cbf_format.specs.declared.Symbol.{Symbol}
 use Rattle.cbf_letters.specs.Letters.{add_six, sixes, group_octets, sixes_octets}
 use mathlib.Core.Path.{◌≡◌, refl, sym, ap, ◌∙◌, subst}
-use mathlib.Core.Option.{Option, none, some, some-ne-none}
+use Rattle.std.specs.Prelude.{Option, None, Some}
+use Rattle.std.proofs.lemmas.Option.{none-some}
 use mathlib.Core.Bool.{Bool, true, false, ◌&&◌, cond}
 use native.Mathlib.Omega.{arith}
 use lib.Dec.{eqb}
@@ -80,8 +81,8 @@ joined_length k l e = go (fours k l e)
 
 -- a number that may be there
 abbrev add_number : Option ℕ → List ℕ → List ℕ
-add_number none l = l
-add_number (some n) l = n ∷ l
+add_number None l = l
+add_number (Some n) l = n ∷ l
 
 add_six_lem : (s : Symbol) (l : List ℕ) → add_six s l ≡ add_number (six s) l
 add_six_lem (Letter n) l = refl
@@ -93,29 +94,29 @@ add_six_lem Other l = refl
 abbrev Joins : List ℕ → List ℕ → Type 0
 Joins l os = os ≡ take (length os) (sixes_octets l)
 
-last_says : (b : Bool) (xs os : List ℕ) → last_group b xs ≡ some os → (b ≡ true) × (xs ≡ os)
+last_says : (b : Bool) (xs os : List ℕ) → last_group b xs ≡ Some os → (b ≡ true) × (xs ≡ os)
 last_says true xs os e = (refl, cc)
-last_says false xs os e = absurd (some-ne-none os (sym e))
+last_says false xs os e = absurd (none-some os e)
 
 module _ (p q last : Bool) (m os : List ℕ) (ends : last ≡ true → m ≡ []) where
-  group-joins : (a b c d : Option ℕ) (r : Option (List ℕ)) → ((xs : List ℕ) → r ≡ some xs → Joins m xs) → from_group a b c d p q last r ≡ some os
+  group-joins : (a b c d : Option ℕ) (r : Option (List ℕ)) → ((xs : List ℕ) → r ≡ Some xs → Joins m xs) → from_group a b c d p q last r ≡ Some os
       → Joins (add_number a (add_number b (add_number c (add_number d m)))) os
   unfolding sixes_octets
-  group-joins (some a) (some b) (some c) (some d) (some xs) more e =
+  group-joins (Some a) (Some b) (Some c) (Some d) (Some xs) more e =
       let z : group_octets a b c d ++ xs ≡ os = cc in
       subst (Joins (a ∷ b ∷ c ∷ d ∷ m)) z (ap (λ (ys : List ℕ). group_octets a b c d ++ ys) (more xs refl))
-  group-joins (some a) (some b) (some c) (some d) none more e = absurd (some-ne-none os (sym e))
-  group-joins (some a) (some b) (some c) none r more e =
+  group-joins (Some a) (Some b) (Some c) (Some d) None more e = absurd (none-some os e)
+  group-joins (Some a) (Some b) (Some c) None r more e =
       let u = last_says (q && (last && eqb (c % 4) 0)) ((a * 4 + b / 16) ∷ (b % 16 * 16 + c / 4) ∷ []) os e in
       let n : m ≡ [] = ends (and-true last (eqb (c % 4) 0) (and-true q (last && eqb (c % 4) 0) u.0).1).0 in
       rw n (rw (← u.1))
-  group-joins (some a) (some b) none none r more e =
+  group-joins (Some a) (Some b) None None r more e =
       let u = last_says ((p && q) && (last && eqb (b % 16) 0)) ((a * 4 + b / 16) ∷ []) os e in
       let n : m ≡ [] = ends (and-true last (eqb (b % 16) 0) (and-true (p && q) (last && eqb (b % 16) 0) u.0).1).0 in
       rw n (rw (← u.1))
-  group-joins (some a) (some b) none (some d) r more e = absurd (some-ne-none os (sym e))
-  group-joins (some a) none c d r more e = absurd (some-ne-none os (sym e))
-  group-joins none b c d r more e = absurd (some-ne-none os (sym e))
+  group-joins (Some a) (Some b) None (Some d) r more e = absurd (none-some os e)
+  group-joins (Some a) None c d r more e = absurd (none-some os e)
+  group-joins None b c d r more e = absurd (none-some os e)
 
 empty-sixes : (l : List Symbol) → is_empty l ≡ true → sixes_of l ≡ []
 unfolding sixes_of
@@ -123,12 +124,12 @@ empty-sixes [] e = refl
 empty-sixes (s ∷ l) e = let z : ◌≡◌ {A = ℕ} 0 1 = cc in absurd (omega arith)
 
 -- octets that symbols decode to are the first that their numbers give
-pub decode-joined : (l : List Symbol) (os : List ℕ) → decode l ≡ some os → os ≡ take (length os) (sixes_octets (sixes_of l))
+pub decode-joined : (l : List Symbol) (os : List ℕ) → decode l ≡ Some os → os ≡ take (length os) (sixes_octets (sixes_of l))
 unfolding decode sixes_of
 decode-joined [] os e = let z : [] ≡ os = cc in rw (← z)
-decode-joined (a ∷ []) os e = absurd (some-ne-none os (sym e))
-decode-joined (a ∷ b ∷ []) os e = absurd (some-ne-none os (sym e))
-decode-joined (a ∷ b ∷ c ∷ []) os e = absurd (some-ne-none os (sym e))
+decode-joined (a ∷ []) os e = absurd (none-some os e)
+decode-joined (a ∷ b ∷ []) os e = absurd (none-some os e)
+decode-joined (a ∷ b ∷ c ∷ []) os e = absurd (none-some os e)
 decode-joined (a ∷ b ∷ c ∷ d ∷ l) os e =
     rw (add_six_lem a, add_six_lem b, add_six_lem c, add_six_lem d)
     (group-joins (is_pad c) (is_pad d) (is_empty l) (sixes_of l) os (empty-sixes l) (six a) (six b) (six c) (six d) (decode l) (λ xs q. decode-joined l xs q) e)
@@ -175,10 +176,10 @@ added-sixes (x ∷ t) l = added-six (symbol x) (add_symbols t l) ∙ ap (add_six
 
 -- what holds where only the closing line is left, and is carried back over each line before it, holds of the whole text
 module _ (limit : ℕ) (boundary : List ℕ) (P : ℕ → List ℕ → Letters → Type 0) (closes : (at : ℕ) (s : List ℕ) → P at s (record { symbols = []; closing = at }))
-    (carries : (at : ℕ) (s t : List ℕ) (n : ℕ) (l : Letters) → line s ≡ ok t n → refused_symbol limit 0 t ≡ none → P (at + n) (drop n s) l
+    (carries : (at : ℕ) (s t : List ℕ) (n : ℕ) (l : Letters) → line s ≡ ok t n → refused_symbol limit 0 t ≡ None → P (at + n) (drop n s) l
     → P at s (record { symbols = add_symbols t l.symbols; closing = l.closing })) where
   line-by : (b : Bool) (go : ℕ → Parser Letters) (at : ℕ) (tn : List ℕ × ℕ) → ((m : ℕ) (s : List ℕ) (l : Letters) (n : ℕ) → go m s ≡ ok l n → P m s l)
-      → (s : List ℕ) → line s ≡ ok tn.0 tn.1 → cond b none (refused_symbol limit 0 tn.0) ≡ none → (l : Letters) (n : ℕ)
+      → (s : List ℕ) → line s ≡ ok tn.0 tn.1 → cond b None (refused_symbol limit 0 tn.0) ≡ None → (l : Letters) (n : ℕ)
       → more_text b go at tn (drop tn.1 s) ≡ ok l n → P at s l
   line-by true go at tn each s q r l n e = subst (P at s) (ok-val e) (closes at s)
   line-by false go at tn each s q r l n e =
@@ -229,25 +230,25 @@ letters-sixes limit boundary f at s l n e =
     (omega (arith, b.1), omega (arith, i.place, i.sum, (letters-tame limit boundary f at).within s l n e), b.2 ∙ ap (λ (j : ℕ). sixes (take j s)) k)
 
 -- a text that was not refused decodes to octets of the size
-good-says : (size : ℕ) (l : Letters) → good_text size l ≡ none → (os : List ℕ) × (decode l.symbols ≡ some os) × (length os ≡ size)
+good-says : (size : ℕ) (l : Letters) → good_text size l ≡ None → (os : List ℕ) × (decode l.symbols ≡ Some os) × (length os ≡ size)
 good-says size l e = go (decode l.symbols) refl
   where
-    go : (o : Option (List ℕ)) → decode l.symbols ≡ o → (os : List ℕ) × (decode l.symbols ≡ some os) × (length os ≡ size)
-    go none q = let z : ◌≡◌ {A = ℕ} 0 1 = cc in absurd (omega arith)
-    go (some os) q = by (eqb (length os) size) refl
+    go : (o : Option (List ℕ)) → decode l.symbols ≡ o → (os : List ℕ) × (decode l.symbols ≡ Some os) × (length os ≡ size)
+    go None q = let z : ◌≡◌ {A = ℕ} 0 1 = cc in absurd (omega arith)
+    go (Some os) q = by (eqb (length os) size) refl
       where
-        by : (b : Bool) → eqb (length os) size ≡ b → (os : List ℕ) × (decode l.symbols ≡ some os) × (length os ≡ size)
+        by : (b : Bool) → eqb (length os) size ≡ b → (os : List ℕ) × (decode l.symbols ≡ Some os) × (length os ≡ size)
         by true p = (os, q, eqb-true (length os) size p)
         by false p = let z : ◌≡◌ {A = ℕ} 0 1 = cc in absurd (omega arith)
 
 -- BASE64 data is that of its letters
 pub base64-letters : (limit size : ℕ) (s : List ℕ) (d : Data) (n : ℕ) → base64_data limit size s ≡ ok d n
-    → (l : Letters) × (m : ℕ) × (letters limit closing file_limit 0 s ≡ ok l m) × (good_text size l ≡ none) × (base64_of l ≡ d)
+    → (l : Letters) × (m : ℕ) × (letters limit closing file_limit 0 s ≡ ok l m) × (good_text size l ≡ None) × (base64_of l ≡ d)
 unfolding base64_data
 base64-letters limit size s d n e = go (unbind (text limit size) (after_text limit) s d n (unclose limit (text limit size s) s d n e))
   where
     go : Unbound (text limit size) (after_text limit) s d n
-        → (l : Letters) × (m : ℕ) × (letters limit closing file_limit 0 s ≡ ok l m) × (good_text size l ≡ none) × (base64_of l ≡ d)
+        → (l : Letters) × (m : ℕ) × (letters limit closing file_limit 0 s ≡ ok l m) × (good_text size l ≡ None) × (base64_of l ≡ d)
     go u =
         let v = unbind (semicolon_line limit) (λ e. ret (base64_of u.val)) (drop u.first s) d u.second u.then_did in
         let t = unscreen (good_text size) (letters limit closing file_limit 0 s) u.val u.first u.did in
@@ -271,7 +272,7 @@ base64-octets limit size s d n e =
         × (d.octets ≡ take size (sixes_octets (sixes (take (d.width - 31) s))))
 
     says : (l : Letters) → sixes_of l.symbols ≡ sixes (take (l.closing - 0) s) → l.closing + 31 ≤ length s
-        → (os : List ℕ) × (decode l.symbols ≡ some os) × (length os ≡ size) → Says (base64_of l)
+        → (os : List ℕ) × (decode l.symbols ≡ Some os) × (length os ≡ size) → Says (base64_of l)
     says l q h o =
         let k : l.closing - 0 ≡ l.closing + 31 - 31 = omega arith in (
           refl,

@@ -14,26 +14,19 @@ fn letter(b: u8) -> bool
     requires { text_byte b ≡ true }
     ensures { result ≡ is_letter (symbol b) }
 {
-    if b < 43 {
-        return false;
-    }
-    b != 61
+    43 <= b && b != 61
 }
 
-// Whether the n bytes from at on are letters. No early end, so that they are tested at once.
-fn all_letters(file: &[u8], at: usize, n: usize) -> bool
-    requires { (at + n ≤ length file.now) × GoodText file.now at (at + n) }
-    ensures { result ≡ true → LettersOnly file.now at (at + n) }
+// Whether all bytes are letters. No early end, so that they are tested at once.
+fn all_letters(block: &[u8]) -> bool
+    requires { GoodText block.now 0 (length block.now) }
+    ensures { result ≡ true → LettersOnly block.now 0 (length block.now) }
 {
-    let mut other = false;
-    let mut j: usize = 0;
-    while j < n {
-        if !letter(file[at + j]) {
-            other = true;
-        }
-        j += 1;
+    let mut all = true;
+    for b in block {
+        all &= letter(*b);
     }
-    !other
+    all
 }
 
 // A place from `from` on up to which all bytes are letters, by blocks of n: less than that is left, or the next block
@@ -43,8 +36,9 @@ pub fn after_letters(file: &[u8], from: usize, to: usize, n: usize) -> usize
     ensures { (from ≤ result) × (result ≤ to) × LettersOnly file.now from result × ((result - from) % 4 ≡ 0) }
 {
     let mut i = from;
+    // no `chunks`: the place where the blocks end is the answer
     while n <= to - i {
-        if !all_letters(file, i, n) {
+        if !all_letters(&file[i..i + n]) {
             return i;
         }
         i += n;
@@ -60,30 +54,27 @@ fn number_of(b: u8) -> u8
 {
     let mut n = b + 19;
     if 46 < b {
-        n = n - 3;
+        n -= 3;
     }
     if 47 < b {
-        n = n - 12;
+        n -= 12;
     }
     if 64 < b {
-        n = n - 69;
+        n -= 69;
     }
     if 96 < b {
-        n = n - 6;
+        n -= 6;
     }
     n
 }
 
-// The numbers of the n letters from at on, written to the front of numbers.
-pub fn numbers_of(file: &[u8], at: usize, n: usize, numbers: &mut [u8])
-    requires { (at + n ≤ length file.now) × LettersOnly file.now at (at + n) × (n ≤ length numbers.old) }
-    ensures { numbers.new ≡ sets numbers.old 0
-        (sixes (slice at (at + n) file.now)) }
+// The numbers of the letters, written to the front of numbers.
+pub fn numbers_of(text: &[u8], numbers: &mut [u8])
+    requires { LettersOnly text.now 0 (length text.now) × (length text.now ≤ length numbers.old) }
+    ensures { numbers.new ≡ sets numbers.old 0 (sixes text.now) }
 {
-    let mut j: usize = 0;
-    while j < n {
-        numbers[j] = number_of(file[at + j]);
-        j += 1;
+    for j in 0..text.len() {
+        numbers[j] = number_of(text[j]);
     }
 }
 
@@ -94,17 +85,16 @@ pub fn next_place(file: &[u8], at: usize, to: usize) -> usize
         ≡ sixes (slice result to file.now)) × (result < to → is_letter (symbol (get_or file.now result 0))
         ≡ true) }
 {
-    let mut i = at;
-    while i < to {
+    for i in at..to {
         if letter(file[i]) {
             return i;
         }
-        i += 1;
     }
-    i
+    to
 }
 
-// A letter's number and the place after it; 0 where the text ends.
+// A letter's number and the place after it; where the text ends, 0, which stands for the letter that the last group
+// lacks.
 #[derive(Clone, Copy)]
 pub struct Six {
     pub number: u8,

@@ -24,8 +24,7 @@ fn join(numbers: &[u8], k: usize, out: &mut [u8], at: usize)
     ensures { out.new ≡ sets out.old at
         (sixes_octets (take (4 * k) numbers.now)) }
 {
-    let mut j: usize = 0;
-    while j < k {
+    for j in 0..k {
         let i = 4 * j;
         put_group(
             numbers[i],
@@ -35,14 +34,7 @@ fn join(numbers: &[u8], k: usize, out: &mut [u8], at: usize)
             out,
             at + 3 * j,
         );
-        j += 1;
     }
-}
-
-pub fn least(a: usize, b: usize) -> usize
-    ensures { (result ≤ a) × (result ≤ b) × ((result ≡ a) ⊎ (result ≡ b)) }
-{
-    if a < b { a } else { b }
 }
 
 // Decodes letters that stand side by side, at most 128; how many they were.
@@ -51,11 +43,12 @@ fn decode_run(file: &[u8], at: usize, to: usize, out: &mut [u8], from: usize) ->
     ensures { (result % 4 ≡ 0) × Decodes file.now at to out.old from out.new
         (at + result) (from + result / 4 * 3) }
 {
-    let end = at + least(to - at, least(128, (out.len() - from) / 3 * 4));
+    let room = (out.len() - from) / 3 * 4;
+    let end = at + (to - at).min(room).min(128);
     let next = letters::after_letters(file, letters::after_letters(file, at, end, 16), end, 4);
+    let mut numbers = [0; 128];
+    letters::numbers_of(&file[at..next], &mut numbers);
     let n = next - at;
-    let mut numbers = [0u8; 128];
-    letters::numbers_of(file, at, n, &mut numbers);
     join(&numbers, n / 4, out, from);
     n
 }
@@ -76,7 +69,7 @@ fn decode_group(file: &[u8], at: usize, to: usize, out: &mut [u8], from: usize) 
 }
 
 // The place in the text up to which it is decoded, and the end of the octets that were written.
-#[derive(Clone, Copy)]
+#[derive(Clone, Copy, Debug, PartialEq, Eq)]
 pub struct Decoded {
     pub at: usize,
     pub end: usize,
@@ -90,6 +83,7 @@ pub fn decode(file: &[u8], at: usize, to: usize, out: &mut [u8], from: usize) ->
 {
     let mut i = at;
     let mut k = from;
+    // no `for`: how far a turn goes is known when it is over
     while 3 <= out.len() - k {
         i = letters::next_place(file, i, to);
         if to <= i {

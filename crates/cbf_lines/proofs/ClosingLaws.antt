@@ -2,7 +2,7 @@
 -- boundary. Assumes nothing.
 use mathlib.Core.Path.{◌≡◌, refl, sym, ap, ◌∙◌, subst}
 use mathlib.Core.Logic.{◌⊎◌, inl, inr, ⊎_elim}
-use mathlib.Core.Option.{none, some}
+use Rattle.std.specs.Prelude.{Option, None, Some}
 use mathlib.Core.Bool.{Bool, true, false, ◌&&◌, ◌||◌, cond, and-false}
 use mathlib.Core.List.{List, [], ◌∷◌, ◌++◌}
 use Prim.Native.Nat.{ℕ, suc, ◌+◌, ◌-◌, ◌≤◌, ◌<◌}
@@ -11,25 +11,22 @@ use native.Mathlib.Numerals.{add-one}
 use borrow.Author.Tests.{le-leb, lt-leb, lt-ltb, le-ltb, ltb-true, ltb-false, ne_eqb, eqb-true, eqb-false}
 use lib.Dec.{leb, ltb, eqb}
 use lib.ListN.{length, take, drop, get_or, length-append, length-drop, take-append-drop, drop_of_length-le}
-use lib.Seq.{slice, length-take-le, drop-append-le, drop-cons, drop-drop, drop_at, take-add, get_or-drop, get_or-take}
+use lib.Seq.{slice, length-take-le, drop-append-le, drop-cons, drop-drop, get_or-drop, get_or-take}
 use lib.Seq.{length-slice}
 use Rattle.cbf_walk.specs.Parsers.{Res, bad, cut, ok, Parser, hd, plus, then, bind, counted, screen, ret}
 use Rattle.cbf_format.specs.Text.{blank, blanks, textual, same}
 use Rattle.cbf_format.specs.Lines.{end_length, add_byte, line, only_end, line_end, exactly, literal, semicolon}
 use Rattle.cbf_format.specs.Lines.{semicolon_line}
 use Rattle.cbf_format.specs.Sections.{closing, last_boundary, after_span, closed}
-use Rattle.cbf_lines.specs.declared.closing.Next.{Next}
-use Rattle.cbf_lines.specs.declared.closing.Next.TheVariants.{Missing, At}
 use Rattle.cbf_lines.specs.declared.closing.Ending.{Ending}
-use Rattle.cbf_lines.specs.declared.closing.Ending.TheVariants.{Wrong, Span}
 use Rattle.cbf_lines.specs.Text.{Run}
 use Rattle.cbf_lines.specs.Closing.{next_at, ended_at, closed_at}
 use Rattle.cbf_lines.proofs.LineLaws.{line-good, textual-inside}
 
-pub no_place_lem : {i : ℕ} → At i ≡ Missing → ⊥
+pub no_place_lem : {i : ℕ} → Some i ≡ None → ⊥
 no_place_lem e = let z : ◌≡◌ {A = ℕ} 0 1 = cc in omega arith
 
-pub same_place : {i j : ℕ} → At i ≡ At j → i ≡ j
+pub same_place : {i j : ℕ} → Some i ≡ Some j → i ≡ j
 same_place e = cc
 
 -- ---- a line end
@@ -64,22 +61,22 @@ first_byte x xs = go (eqb x 10) refl (eqb x 13) refl
     go false p false q = inr (goes_on x xs (eqb-false x 10 p) (eqb-false x 13 q))
 
 module _ (at : ℕ) (s : List ℕ) where
-  pub line-end-there : {n : ℕ} → Ends s n → At (at + n) ≡ next_at at (line_end s)
+  pub line-end-there : {n : ℕ} → Ends s n → Some (at + n) ≡ next_at at (line_end s)
   unfolding line_end
   line-end-there {n} e = rw (e.empty, le-leb 1 n e.some_byte)
 
-  line-end-not : (x : ℕ) (r : Res (List ℕ)) → line s ≡ add_byte x r → Missing ≡ next_at at (line_end s)
+  line-end-not : (x : ℕ) (r : Res (List ℕ)) → line s ≡ add_byte x r → None ≡ next_at at (line_end s)
   unfolding line_end
   line-end-not x r e = rw e (go r)
     where
-      go : (r : Res (List ℕ)) → Missing ≡ next_at at (screen only_end (counted (add_byte x r)))
+      go : (r : Res (List ℕ)) → None ≡ next_at at (screen only_end (counted (add_byte x r)))
       go (bad k p) = refl
       go cut = refl
       go (ok t n) = refl
 
 -- the same at a place of the file
 module _ (file : List ℕ) (at : ℕ) where
-  pub line-end-past : length file ≤ at → Missing ≡ next_at at (line_end (drop at file))
+  pub line-end-past : length file ≤ at → None ≡ next_at at (line_end (drop at file))
   unfolding line_end
   line-end-past h = rw (drop_of_length-le file {i = at} h)
 
@@ -95,26 +92,16 @@ module _ (file : List ℕ) (at : ℕ) where
         subst (λ (s : List ℕ). Ends s (end_length (hd (drop (at + 1) file)))) (ap (λ (x : ℕ). x ∷ drop (at + 1) file)
         (sym e) ∙ here) (ends-13 (drop (at + 1) file))
 
-    pub at_other : (get_or file at 0 ≡ 10 → ⊥) → (get_or file at 0 ≡ 13 → ⊥) → Missing ≡ next_at at (line_end (drop at file))
+    pub at_other : (get_or file at 0 ≡ 10 → ⊥) → (get_or file at 0 ≡ 13 → ⊥) → None ≡ next_at at (line_end (drop at file))
     at_other n10 n13 =
         line-end-not at (drop at file) (get_or file at 0) (line (drop (at + 1) file)) (ap line (sym here) ∙ goes_on (get_or file at 0) (drop (at + 1) file) n10 n13)
 
-  -- how long a line end is whose 13 stands just before the place
-  pub two_bytes : at < length file → get_or file at 0 ≡ 10 → end_length (hd (drop at file)) ≡ 2
-  two_bytes h e = rw (drop-cons file at 0 h, e)
-
-  pub one_byte : at < length file → (get_or file at 0 ≡ 10 → ⊥) → end_length (hd (drop at file)) ≡ 1
-  one_byte h n = rw (drop-cons file at 0 h, ne_eqb (get_or file at 0) 10 n)
-
-  pub no_byte : length file ≤ at → end_length (hd (drop at file)) ≡ 1
-  no_byte h = rw (drop_of_length-le file {i = at} h)
-
   -- a line end lies in the file
-  pub line-end-inside : {i : ℕ} → at ≤ length file → At i ≡ next_at at (line_end (drop at file)) → i ≤ length file
+  pub line-end-inside : {i : ℕ} → at ≤ length file → Some i ≡ next_at at (line_end (drop at file)) → i ≤ length file
   unfolding line_end
   line-end-inside {i} h e = go (drop at file) (omega (arith, length-drop at file)) e
     where
-      go : (s : List ℕ) → at + length s ≤ length file → At i ≡ next_at at (line_end s) → i ≤ length file
+      go : (s : List ℕ) → at + length s ≤ length file → Some i ≡ next_at at (line_end s) → i ≤ length file
       go [] l q = absurd (no_place_lem q)
       go (x ∷ xs) l q = ⊎_elim there not (first_byte x xs)
         where
@@ -129,7 +116,7 @@ module _ (file : List ℕ) (at : ℕ) where
 
 -- a line's end, with the file or with a line end
 module _ (file : List ℕ) (at : ℕ) where
-  pub ended-file : length file ≤ at → At at ≡ ended_at at (drop at file)
+  pub ended-file : length file ≤ at → Some at ≡ ended_at at (drop at file)
   ended-file h = sym (ap (ended_at at) (drop_of_length-le file {i = at} h))
 
   pub ended-line : at < length file → next_at at (line_end (drop at file)) ≡ ended_at at (drop at file)
@@ -150,12 +137,12 @@ pub record GoesOn (file : List ℕ) (at : ℕ) : Type 0 where
 
 module _ (file : List ℕ) (at : ℕ) (inside : at ≤ length file) where
   -- a line end, or a byte of the line's text
-  abbrev EndOrByte : Next → Type 0
-  EndOrByte r = ((n : ℕ) × Ends (drop at file) n × (r ≡ At (at + n))) ⊎
-      ((line (drop at file) ≡ add_byte (get_or file at 0) (line (drop (at + 1) file))) × (r ≡ Missing))
+  abbrev EndOrByte : Option ℕ → Type 0
+  EndOrByte r = ((n : ℕ) × Ends (drop at file) n × (r ≡ Some (at + n))) ⊎
+      ((line (drop at file) ≡ add_byte (get_or file at 0) (line (drop (at + 1) file))) × (r ≡ None))
 
   module _ (h : at < length file) where
-    by_first : (r : Next) → r ≡ ended_at at (drop at file) → EndOrByte r
+    by_first : (r : Option ℕ) → r ≡ ended_at at (drop at file) → EndOrByte r
     by_first r q = ⊎_elim there not (first_byte (get_or file at 0) (drop (at + 1) file))
       where
         e : r ≡ next_at at (line_end (drop at file))
@@ -172,7 +159,7 @@ module _ (file : List ℕ) (at : ℕ) (inside : at ≤ length file) where
             let w : line (drop at file) ≡ add_byte (get_or file at 0) (line (drop (at + 1) file)) = ap line (sym (here file at h)) ∙ v in
             inr (w, e ∙ sym (line-end-not at (drop at file) (get_or file at 0) (line (drop (at + 1) file)) w))
 
-  pub ended_at_lem : {next : ℕ} → At next ≡ ended_at at (drop at file) → EndsAt file at next
+  pub ended_at_lem : {next : ℕ} → Some next ≡ ended_at at (drop at file) → EndsAt file at next
   ended_at_lem {next} q = go (ltb at (length file)) refl
     where
       go : (t : Bool) → ltb at (length file) ≡ t → EndsAt file at next
@@ -186,13 +173,13 @@ module _ (file : List ℕ) (at : ℕ) (inside : at ≤ length file) where
             empty = v.1.empty;
             inside = omega (arith, length-drop at file);
           })
-          (λ v. absurd (no_place_lem v.1)) (by_first h (At next) q)
+          (λ v. absurd (no_place_lem v.1)) (by_first h (Some next) q)
       go false p =
           let h : length file ≤ at = ltb-false at (length file) p in
           let z : next ≡ at = same_place (q ∙ sym (ended-file file at h)) in
           record { taken = 0; place = omega arith; empty = ap line (drop_of_length-le file {i = at} h); inside = omega arith }
 
-  pub ended-not : Missing ≡ ended_at at (drop at file) → GoesOn file at
+  pub ended-not : None ≡ ended_at at (drop at file) → GoesOn file at
   ended-not q = go (ltb at (length file)) refl
     where
       go : (t : Bool) → ltb at (length file) ≡ t → GoesOn file at
@@ -205,7 +192,7 @@ module _ (file : List ℕ) (at : ℕ) (inside : at ≤ length file) where
             taken = suc g.1;
             reads
                 = v.0 ∙ ap (add_byte (get_or file at 0)) g.2.reads;
-          }) (by_first h Missing q)
+          }) (by_first h None q)
       go false p = absurd (no_place_lem (ended-file file at (ltb-false at (length file) p) ∙ sym q))
 
 -- ---- the line of `;` and blanks
@@ -260,42 +247,42 @@ blanks-more (x ∷ bs) t e = let b = and_both (blank x) (blanks bs) e in rw b.0 
 
 -- `;`, then blanks, then these bytes
 module _ (limit at : ℕ) (bs s : List ℕ) (b : blanks bs ≡ true) where
-  semicolon-there : {n : ℕ} → line s ≡ ok [] n → length bs < limit → At (at + (suc (length bs) + n)) ≡ next_at at (semicolon_line limit (59 ∷ (bs ++ s)))
+  semicolon-there : {n : ℕ} → line s ≡ ok [] n → length bs < limit → Some (at + (suc (length bs) + n)) ≡ next_at at (semicolon_line limit (59 ∷ (bs ++ s)))
   unfolding semicolon_line
   semicolon-there {n} e h =
       let l : length (bs ++ []) < limit = omega (arith, length-append bs []) in
       let z : suc (length bs) + n ≡ suc (length bs + n) = omega arith in
-      rw (line-ahead bs s (blanks-texts bs b), e, blanks-more bs [] b, lt-ltb (length (bs ++ [])) limit l) (ap (λ (k : ℕ). At (at + k)) z)
+      rw (line-ahead bs s (blanks-texts bs b), e, blanks-more bs [] b, lt-ltb (length (bs ++ [])) limit l) (ap (λ (k : ℕ). Some (at + k)) z)
 
-  semicolon-long : limit ≤ length bs → Missing ≡ next_at at (semicolon_line limit (59 ∷ (bs ++ s)))
+  semicolon-long : limit ≤ length bs → None ≡ next_at at (semicolon_line limit (59 ∷ (bs ++ s)))
   unfolding semicolon_line
   semicolon-long h = rw (line-ahead bs s (blanks-texts bs b)) (go (line s))
     where
-      go : (r : Res (List ℕ)) → Missing ≡ next_at at (screen (semicolon limit) (add_byte 59 (ahead bs r)))
+      go : (r : Res (List ℕ)) → None ≡ next_at at (screen (semicolon limit) (add_byte 59 (ahead bs r)))
       go (bad k p) = refl
       go cut = refl
       go (ok t n) = rw (blanks-more bs t b, le-ltb (length (bs ++ t)) limit (omega (arith, length-append bs t)), and-false)
 
-  semicolon-more : (x : ℕ) (r : Res (List ℕ)) → blank x ≡ false → line s ≡ add_byte x r → Missing ≡ next_at at (semicolon_line limit (59 ∷ (bs ++ s)))
+  semicolon-more : (x : ℕ) (r : Res (List ℕ)) → blank x ≡ false → line s ≡ add_byte x r → None ≡ next_at at (semicolon_line limit (59 ∷ (bs ++ s)))
   unfolding semicolon_line
   semicolon-more x r f e = rw (line-ahead bs s (blanks-texts bs b), e) (go r)
     where
-      go : (r : Res (List ℕ)) → Missing ≡ next_at at (screen (semicolon limit) (add_byte 59 (ahead bs (add_byte x r))))
+      go : (r : Res (List ℕ)) → None ≡ next_at at (screen (semicolon limit) (add_byte 59 (ahead bs (add_byte x r))))
       go (bad k p) = refl
       go cut = refl
       go (ok t n) = rw (blanks-more bs (x ∷ t) b, f)
 
 -- another line
 module _ (limit at : ℕ) (s : List ℕ) where
-  semicolon-empty : {n : ℕ} → line s ≡ ok [] n → Missing ≡ next_at at (semicolon_line limit s)
+  semicolon-empty : {n : ℕ} → line s ≡ ok [] n → None ≡ next_at at (semicolon_line limit s)
   unfolding semicolon_line
   semicolon-empty e = rw e
 
-  semicolon-not : (x : ℕ) (r : Res (List ℕ)) → (x ≡ 59 → ⊥) → line s ≡ add_byte x r → Missing ≡ next_at at (semicolon_line limit s)
+  semicolon-not : (x : ℕ) (r : Res (List ℕ)) → (x ≡ 59 → ⊥) → line s ≡ add_byte x r → None ≡ next_at at (semicolon_line limit s)
   unfolding semicolon_line
   semicolon-not x r d e = rw e (go r)
     where
-      go : (r : Res (List ℕ)) → Missing ≡ next_at at (screen (semicolon limit) (add_byte x r))
+      go : (r : Res (List ℕ)) → None ≡ next_at at (screen (semicolon limit) (add_byte x r))
       go (bad k p) = refl
       go cut = refl
       go (ok t n) = rw (ne_eqb x 59 d)
@@ -320,13 +307,13 @@ slice-then file from to h k =
 
 -- the same at a place of the file
 module _ (file : List ℕ) (limit at : ℕ) where
-  pub semicolon-past : length file ≤ at → Missing ≡ next_at at (semicolon_line limit (drop at file))
+  pub semicolon-past : length file ≤ at → None ≡ next_at at (semicolon_line limit (drop at file))
   semicolon-past h = semicolon-empty limit at (drop at file) {n = 0} (ap line (drop_of_length-le file {i = at} h))
 
   module _ (h : at < length file) where
-    pub no-semicolon : (get_or file at 0 ≡ 59 → ⊥) → Missing ≡ next_at at (semicolon_line limit (drop at file))
+    pub no-semicolon : (get_or file at 0 ≡ 59 → ⊥) → None ≡ next_at at (semicolon_line limit (drop at file))
     no-semicolon d =
-        subst (λ (s : List ℕ). Missing ≡ next_at at (semicolon_line limit s)) (here file at h)
+        subst (λ (s : List ℕ). None ≡ next_at at (semicolon_line limit s)) (here file at h)
         (⊎_elim (λ e. semicolon-empty limit at s₀ e.1.empty) (λ e. semicolon-not limit at s₀ x (line xs) d e) (first_byte x xs))
       where
         x : ℕ
@@ -351,27 +338,27 @@ module _ (file : List ℕ) (limit at : ℕ) where
       parts : 59 ∷ (bs ++ drop to file) ≡ drop at file
       parts = ap (λ (s : List ℕ). 59 ∷ s) (slice-then file (at + 1) to run.low run.high) ∙ ap (λ (x : ℕ). x ∷ drop (at + 1) file) (sym e) ∙ here file at h
 
-      pub semicolon-too-long : limit < to - at → Missing ≡ next_at at (semicolon_line limit (drop at file))
+      pub semicolon-too-long : limit < to - at → None ≡ next_at at (semicolon_line limit (drop at file))
       semicolon-too-long l =
-          subst (λ (s : List ℕ). Missing ≡ next_at at (semicolon_line limit s)) parts
+          subst (λ (s : List ℕ). None ≡ next_at at (semicolon_line limit s)) parts
           (semicolon-long limit at bs (drop to file) bs-blank (let q = length-bs in omega arith))
 
       fits : to - at ≤ limit → length bs < limit
       fits l = let q = length-bs in let g = run.low in omega arith
 
-      ended : {n : ℕ} → line (drop to file) ≡ ok [] n → to - at ≤ limit → At (to + n) ≡ next_at at (semicolon_line limit (drop at file))
+      ended : {n : ℕ} → line (drop to file) ≡ ok [] n → to - at ≤ limit → Some (to + n) ≡ next_at at (semicolon_line limit (drop at file))
       ended {n} q l =
           let g = run.low in
           let z : to + n ≡ at + (suc (length bs) + n) = omega (arith, length-bs) in
-          subst (λ (s : List ℕ). At (to + n) ≡ next_at at (semicolon_line limit s)) parts
-          (ap At z ∙ semicolon-there limit at bs (drop to file) bs-blank q (fits l))
+          subst (λ (s : List ℕ). Some (to + n) ≡ next_at at (semicolon_line limit s)) parts
+          (ap Some z ∙ semicolon-there limit at bs (drop to file) bs-blank q (fits l))
 
-      pub semicolon-last : to ≡ length file → to - at ≤ limit → At to ≡ next_at at (semicolon_line limit (drop at file))
+      semicolon-last : to ≡ length file → to - at ≤ limit → Some to ≡ next_at at (semicolon_line limit (drop at file))
       semicolon-last q l =
           let z : to ≡ to + 0 = omega arith in
-          ap At z ∙ ended {n = 0} (ap line (drop_of_length-le file {i = to} (omega arith))) l
+          ap Some z ∙ ended {n = 0} (ap line (drop_of_length-le file {i = to} (omega arith))) l
 
-      pub semicolon-onward : to < length file → to - at ≤ limit → next_at to (line_end (drop to file)) ≡ next_at at (semicolon_line limit (drop at file))
+      semicolon-onward : to < length file → to - at ≤ limit → next_at to (line_end (drop to file)) ≡ next_at at (semicolon_line limit (drop at file))
       semicolon-onward q l = ⊎_elim there not (first_byte x xs)
         where
           x : ℕ
@@ -389,23 +376,33 @@ module _ (file : List ℕ) (limit at : ℕ) where
           not v =
               let w : line (drop to file) ≡ add_byte x (line xs) = ap line (sym (here file to q)) ∙ v in
               sym (line-end-not to (drop to file) x (line xs) w)
-              ∙ subst (λ (s : List ℕ). Missing ≡ next_at at (semicolon_line limit s)) parts (semicolon-more limit at bs
+              ∙ subst (λ (s : List ℕ). None ≡ next_at at (semicolon_line limit s)) parts (semicolon-more limit at bs
               (drop to file) bs-blank x (line xs) (run.stops q) w)
+
+      pub semicolon-ended : to - at ≤ limit → ended_at to (drop to file) ≡ next_at at (semicolon_line limit (drop at file))
+      semicolon-ended l = go (ltb to (length file)) refl
+        where
+          go : (t : Bool) → ltb to (length file) ≡ t → ended_at to (drop to file) ≡ next_at at (semicolon_line limit (drop at file))
+          go true p = let h = ltb-true to (length file) p in sym (ended-line file to h) ∙ semicolon-onward h l
+          go false p =
+              let h = ltb-false to (length file) p in
+              let g = run.high in
+              sym (ended-file file to h) ∙ semicolon-last (omega arith) l
 
 -- ---- one after the other
 
 next-plus : {B : Type 0} (at n : ℕ) (r : Res B) → next_at at (plus n r) ≡ next_at (at + n) r
 next-plus at n (bad k p) = refl
 next-plus at n cut = refl
-next-plus at n (ok b m) = let z : at + (n + m) ≡ at + n + m = omega arith in ap At z
+next-plus at n (ok b m) = let z : at + (n + m) ≡ at + n + m = omega arith in ap Some z
 
 module _ {A B : Type 0} (file : List ℕ) (at : ℕ) where
-  then-missing : (f : A → Parser B) (r : Res A) → Missing ≡ next_at at r → Missing ≡ next_at at (then r f (drop at file))
+  then-missing : (f : A → Parser B) (r : Res A) → None ≡ next_at at r → None ≡ next_at at (then r f (drop at file))
   then-missing f (bad k p) e = refl
   then-missing f cut e = refl
   then-missing f (ok a n) e = absurd (no_place_lem (sym e))
 
-  then_next : (q : Parser B) (r : Res A) {i : ℕ} → At i ≡ next_at at r → next_at i (q (drop i file)) ≡ next_at at (then r (λ e. q) (drop at file))
+  then_next : (q : Parser B) (r : Res A) {i : ℕ} → Some i ≡ next_at at r → next_at i (q (drop i file)) ≡ next_at at (then r (λ e. q) (drop at file))
   then_next q (bad k p) e = absurd (no_place_lem e)
   then_next q cut e = absurd (no_place_lem e)
   then_next q (ok a n) {i} e =
@@ -414,11 +411,11 @@ module _ {A B : Type 0} (file : List ℕ) (at : ℕ) where
 
 -- what follows the span
 module _ (file : List ℕ) (limit at : ℕ) where
-  pub after-span-missing : Missing ≡ next_at at (line_end (drop at file)) → Missing ≡ next_at at (after_span limit (drop at file))
+  pub after-span-missing : None ≡ next_at at (line_end (drop at file)) → None ≡ next_at at (after_span limit (drop at file))
   unfolding after_span
   after-span-missing e = then-missing file at (λ t. semicolon_line limit) (line_end (drop at file)) e
 
-  pub after-span-next : {i : ℕ} → At i ≡ next_at at (line_end (drop at file))
+  pub after-span-next : {i : ℕ} → Some i ≡ next_at at (line_end (drop at file))
       → next_at i (semicolon_line limit (drop i file)) ≡ next_at at (after_span limit (drop at file))
   unfolding after_span
   after-span-next e = then_next file at (semicolon_line limit) (line_end (drop at file)) e
@@ -427,47 +424,44 @@ module _ (file : List ℕ) (limit at : ℕ) where
 
 -- just these bytes, at a place of the file
 module _ (w file : List ℕ) (at : ℕ) where
-  pub word-short : length file - at < length w → Missing ≡ next_at at (literal w (drop at file))
+  pub word-short : length file - at < length w → None ≡ next_at at (literal w (drop at file))
   unfolding literal exactly
   word-short h = rw (lt-leb (length w) (length (drop at file)) (omega (arith, length-drop at file)))
 
-  pub word_at : (to : ℕ) → to ≡ at + length w → to ≤ length file → (t : Bool) → same (slice at to file) w ≡ t
-      → cond t (At to) Missing ≡ next_at at (literal w (drop at file))
+  pub word_at : (to : ℕ) → to ≡ at + length w → to ≤ length file → (t : Bool) → same (take (to - at) (drop at file)) w ≡ t
+      → cond t (Some to) None ≡ next_at at (literal w (drop at file))
   unfolding literal exactly
   word_at to e h t q = rw (le-leb (length w) (length (drop at file)) (omega (arith, length-drop at file)), e)
-      (go t (ap (λ (l : List ℕ). same l w) (sym part) ∙ q))
+      (go t (ap (λ (n : ℕ). same (take n (drop at file)) w) width ∙ q))
     where
-      part : slice at to file ≡ take (length w) (drop at file)
-      part =
-          ap (λ (k : ℕ). drop at (take k file)) e
-          ∙ ap (drop at) (take-add at (length w) file)
-          ∙ drop_at (take at file) (take (length w) (drop at file)) at (length-take-le at file (omega arith))
+      width : length w ≡ to - at
+      width = omega arith
 
       go : (t : Bool) → same (take (length w) (drop at file)) w ≡ t
-          → cond t (At (at + length w)) Missing ≡ next_at at (screen (λ u. cond (same u w) none (some (9, 0))) (ok (take (length w) (drop at file)) (length w)))
+          → cond t (Some (at + length w)) None ≡ next_at at (screen (λ u. cond (same u w) None (Some (9, 0))) (ok (take (length w) (drop at file)) (length w)))
       go true q = rw q
       go false q = rw q
 
 -- a span up to a place, and what was read there
-abbrev ending : ℕ → Next → Ending
-ending to Missing = Wrong
-ending to (At next) = Span to next
+abbrev ending : ℕ → Option ℕ → Option Ending
+ending to None = None
+ending to (Some next) = Some (record { to = to; next = next })
 
 -- the line end and the boundary, and then what follows the span
 module _ (file : List ℕ) (limit at : ℕ) where
   after : (List ℕ × ℕ) → Parser ℕ
   after wn = bind (after_span limit) (λ e. ret wn.1)
 
-  wrong : Missing ≡ next_at at (last_boundary (drop at file)) → Wrong ≡ closed_at at (closed limit (drop at file))
+  wrong : None ≡ next_at at (last_boundary (drop at file)) → None ≡ closed_at at (closed limit (drop at file))
   unfolding closed after
   wrong e = go (last_boundary (drop at file)) e
     where
-      go : (r : Res (List ℕ)) → Missing ≡ next_at at r → Wrong ≡ closed_at at (then (counted r) after (drop at file))
+      go : (r : Res (List ℕ)) → None ≡ next_at at r → None ≡ closed_at at (then (counted r) after (drop at file))
       go (bad k p) e = refl
       go cut e = refl
       go (ok t n) e = absurd (no_place_lem (sym e))
 
-  span : {to : ℕ} → At to ≡ next_at at (last_boundary (drop at file))
+  span : {to : ℕ} → Some to ≡ next_at at (last_boundary (drop at file))
       → ending to (next_at to (after_span limit (drop to file))) ≡ closed_at at (closed limit (drop at file))
   unfolding closed after
   span {to} e = go (last_boundary (drop at file)) e
@@ -475,9 +469,9 @@ module _ (file : List ℕ) (limit at : ℕ) where
       last : (n : ℕ) (r : Res (List ℕ)) → ending (at + n) (next_at (at + n) r) ≡ closed_at at (plus n (then r (λ e. ret n) (drop (at + n) file)))
       last n (bad k p) = refl
       last n cut = refl
-      last n (ok t m) = let z : at + n + m ≡ at + (n + (m + 0)) = omega arith in ap (Span (at + n)) z
+      last n (ok t m) = let z : at + n + m ≡ at + (n + (m + 0)) = omega arith in ap (λ (m : ℕ). ending (at + n) (Some m)) z
 
-      go : (r : Res (List ℕ)) → At to ≡ next_at at r → ending to (next_at to (after_span limit (drop to file)))
+      go : (r : Res (List ℕ)) → Some to ≡ next_at at r → ending to (next_at to (after_span limit (drop to file)))
           ≡ closed_at at (then (counted r) after (drop at file))
       go (bad k p) e = absurd (no_place_lem e)
       go cut e = absurd (no_place_lem e)
@@ -485,22 +479,22 @@ module _ (file : List ℕ) (limit at : ℕ) where
           let z : to ≡ at + n = same_place e in
           rw (z, drop-drop n at file) (last n (after_span limit (drop (at + n) file)))
 
-  pub closed-no-end : Missing ≡ next_at at (line_end (drop at file)) → Wrong ≡ closed_at at (closed limit (drop at file))
+  pub closed-no-end : None ≡ next_at at (line_end (drop at file)) → None ≡ closed_at at (closed limit (drop at file))
   unfolding last_boundary
   closed-no-end e = wrong (then-missing file at (λ t. literal closing) (line_end (drop at file)) e)
 
-  module _ {i : ℕ} (e : At i ≡ next_at at (line_end (drop at file))) where
+  module _ {i : ℕ} (e : Some i ≡ next_at at (line_end (drop at file))) where
     boundary : next_at i (literal closing (drop i file)) ≡ next_at at (last_boundary (drop at file))
     unfolding last_boundary
     boundary = then_next file at (literal closing) (line_end (drop at file)) e
 
-    pub closed-short : length file - i < length closing → Wrong ≡ closed_at at (closed limit (drop at file))
+    pub closed-short : length file - i < length closing → None ≡ closed_at at (closed limit (drop at file))
     closed-short h = wrong (word-short closing file i h ∙ boundary)
 
     module _ {to : ℕ} (t : to ≡ i + length closing) (h : to ≤ length file) where
-      pub closed-other : same (slice i to file) closing ≡ false → Wrong ≡ closed_at at (closed limit (drop at file))
+      pub closed-other : same (take (to - i) (drop i file)) closing ≡ false → None ≡ closed_at at (closed limit (drop at file))
       closed-other s = wrong (word_at closing file i to t h false s ∙ boundary)
 
-      pub closed-span : same (slice i to file) closing ≡ true → (r : Next) → r
+      pub closed-span : same (take (to - i) (drop i file)) closing ≡ true → (r : Option ℕ) → r
           ≡ next_at to (after_span limit (drop to file)) → ending to r ≡ closed_at at (closed limit (drop at file))
       closed-span s r q = ap (ending to) q ∙ span (word_at closing file i to t h true s ∙ boundary)

@@ -1,13 +1,13 @@
 -- The identifier on the first line: whether it is there shows in the bytes that the file starts with. Assumes nothing.
 use mathlib.Core.Path.{◌≡◌, refl, sym, ap, ◌∙◌, subst}
-use mathlib.Core.Option.{some}
+use Rattle.std.specs.Prelude.{Some}
 use mathlib.Core.Bool.{Bool, true, false, ◌&&◌, ◌||◌, cond, and-false}
 use mathlib.Core.List.{List, [], ◌∷◌}
-use Prim.Native.Nat.{ℕ, suc, ◌+◌, ◌<◌}
+use Prim.Native.Nat.{ℕ, suc, ◌<◌}
 use native.Mathlib.Omega.{arith}
 use borrow.Author.Tests.{eqb-true, ne_eqb, leb-true, leb-false, le-leb}
 use lib.Dec.{leb, eqb}
-use lib.ListN.{length, take, drop, get_or, length-drop, drop_of_length-le}
+use lib.ListN.{length, take, drop, get_or, drop_of_length-le}
 use lib.Seq.{slice, take-length, drop-cons}
 use Rattle.cbf_walk.specs.Parsers.{ok, screen, screen_or}
 use Rattle.cbf_format.specs.Text.{bytes, blank, digit, same, skip, textual}
@@ -15,9 +15,8 @@ use Rattle.cbf_format.specs.Lines.{line, refused_byte, text_line}
 use Rattle.cbf_format.specs.Files.{versioned, blank_then, identified, refused_first}
 use Rattle.cbf_lines.specs.Text.{Run}
 use Rattle.cbf_lines.specs.Line.{line_at}
-use Rattle.cbf_lines.specs.declared.line.Line.TheVariants.{Refused}
 use Rattle.cbf_lines.proofs.TextLaws.{skip-run}
-use Rattle.cbf_lines.proofs.LineLaws.{line-good}
+use Rattle.cbf_lines.proofs.LineLaws.{line-good, refused_at}
 
 -- ---- the text of a line and the bytes that it is read from pass the same tests, where each test refuses the bytes
 -- that end a line
@@ -158,10 +157,6 @@ identified-line = word-shown (bytes "###CBF: VERSION") blank_then refl blank_the
 
 -- ---- the identifier, byte by byte
 
--- the three bytes of a version
-abbrev pub version_of : List ℕ → ℕ → Bool
-version_of file i = (eqb (get_or file i 0) 48 || eqb (get_or file i 0) 49) && (eqb (get_or file (i + 1) 0) 46 && digit (get_or file (i + 2) 0))
-
 module _ (file : List ℕ) where
   pub too_short : length file < 16 → identified file ≡ false
   unfolding identified
@@ -191,34 +186,13 @@ module _ (file : List ℕ) where
           rw (w, drop-cons file 15 0 h, e)
           (ap versioned (ap skip (sym (whole 16)) ∙ skip-run file run (omega arith) ∙ ap skip (whole r) ∙ at-stop (leb (suc r) (length file)) refl))
 
-  module _ (i : ℕ) where
-    pub version-short : length file < i + 3 → versioned (drop i file) ≡ false
-    version-short h = go (drop i file) (omega (arith, length-drop i file))
-      where
-        go : (s : List ℕ) → length s < 3 → versioned s ≡ false
-        go [] k = refl
-        go (x ∷ []) k = refl
-        go (x ∷ y ∷ []) k = refl
-        go (x ∷ y ∷ z ∷ s) k = absurd (omega arith)
-
-    pub version-at : i + 2 < length file → versioned (drop i file) ≡ version_of file i
-    version-at h =
-        let p : suc i ≡ i + 1 = omega arith in
-        let q : suc (i + 1) ≡ i + 2 = omega arith in
-        let s : drop i file ≡ get_or file i 0 ∷ get_or file (i + 1) 0 ∷ get_or file (i + 2) 0 ∷ drop (suc (i + 2)) file =
-        drop-cons file i 0 (omega arith)
-        ∙ ap (λ (l : List ℕ). get_or file i 0 ∷ l)
-        (ap (λ (k : ℕ). drop k file) p ∙ drop-cons file (i + 1) 0 (omega arith)
-        ∙ ap (λ (l : List ℕ). get_or file (i + 1) 0 ∷ l) (ap (λ (k : ℕ). drop k file) q ∙ drop-cons file (i + 2) 0 (omega arith))) in
-        ap versioned s
-
 -- ---- the first line is refused, or it is a text line
 
 module _ (limit : ℕ) (file : List ℕ) (b : Bool) (known : (t : List ℕ) (n : ℕ) → line file ≡ ok t n → b ≡ identified t) where
-  first-is : (t : List ℕ) (n : ℕ) → line file ≡ ok t n → screen (refused_first limit) (line file) ≡ screen_or (cond b (refused_byte limit 0 t) (some (1, 0))) t n
-  first-is t n e = ap (screen (refused_first limit)) e ∙ ap (λ (c : Bool). screen_or (cond c (refused_byte limit 0 t) (some (1, 0))) t n) (sym (known t n e))
+  first-is : (t : List ℕ) (n : ℕ) → line file ≡ ok t n → screen (refused_first limit) (line file) ≡ screen_or (cond b (refused_byte limit 0 t) (Some (1, 0))) t n
+  first-is t n e = ap (screen (refused_first limit)) e ∙ ap (λ (c : Bool). screen_or (cond c (refused_byte limit 0 t) (Some (1, 0))) t n) (sym (known t n e))
 
-  pub first-refused : b ≡ false → Refused (record { number = 1; place = 0 }) ≡ line_at 0 (screen (refused_first limit) (line file))
+  pub first-refused : b ≡ false → refused_at 1 0 ≡ line_at 0 (screen (refused_first limit) (line file))
   first-refused f = let g = line-good file in sym (ap (line_at 0) (first-is g.0 g.1 g.2.reads) ∙ rw f)
 
   pub first-text : b ≡ true → text_line limit file ≡ screen (refused_first limit) (line file)
@@ -226,4 +200,4 @@ module _ (limit : ℕ) (file : List ℕ) (b : Bool) (known : (t : List ℕ) (n :
   first-text f =
       let g = line-good file in
       ap (screen (refused_byte limit 0)) g.2.reads ∙ sym (first-is g.0 g.1 g.2.reads
-      ∙ ap (λ (c : Bool). screen_or (cond c (refused_byte limit 0 g.0) (some (1, 0))) g.0 g.1) f)
+      ∙ ap (λ (c : Bool). screen_or (cond c (refused_byte limit 0 g.0) (Some (1, 0))) g.0 g.1) f)

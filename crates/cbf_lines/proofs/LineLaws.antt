@@ -1,7 +1,7 @@
 -- Lines of the file: a text line by the run of text bytes that it starts with, a header line by its name. Assumes
 -- nothing.
 use mathlib.Core.Path.{◌≡◌, refl, sym, ap, ◌∙◌, subst}
-use mathlib.Core.Option.{Option, none, some}
+use Rattle.std.specs.Prelude.{Option, None, Some, Result, Ok, Err}
 use mathlib.Core.Bool.{Bool, true, false, cond, not}
 use mathlib.Core.List.{List, [], ◌∷◌, ◌++◌, append-nil}
 use Prim.Native.Nat.{ℕ, suc, ◌+◌, ◌-◌, ◌≤◌, ◌<◌}
@@ -16,11 +16,19 @@ use Rattle.cbf_format.specs.Text.{blank, textual}
 use Rattle.cbf_format.specs.Lines.{line, add_byte, end_length, refused_byte, text_line}
 use Rattle.cbf_format.specs.Headers.{name_byte, split_colon, add_name, some_name, malformed, or_malformed, header_line}
 use Rattle.cbf_lines.specs.Text.{Run}
-use Rattle.cbf_lines.specs.Line.{farthest_from, line_at, end_from}
+use Rattle.cbf_lines.specs.Line.{farthest_from, line_at}
+use Rattle.cbf_answers.specs.declared.Refusal.{Refusal}
 use Rattle.cbf_lines.specs.declared.line.Line.{Line}
-use Rattle.cbf_lines.specs.declared.line.Line.TheVariants.{Refused, Text}
-use Rattle.cbf_format.proofs.Slices.{slice-take}
+use Rattle.cbf_format.proofs.Slices.{slice-take, slice-part}
 use Rattle.cbf_lines.proofs.TextLaws.{by-run, run-tail}
+
+-- ---- the answers, by their numbers
+
+abbrev pub text_to : ℕ → ℕ → Result Line Refusal
+text_to to next = Ok (record { to = to; next = next })
+
+abbrev pub refused_at : ℕ → ℕ → Result Line Refusal
+refused_at number place = Err (record { number = number; place = place })
 
 -- ---- where a scan may end
 
@@ -86,16 +94,6 @@ module _ (file : List ℕ) (i : ℕ) where
 
     pub line-13 : get_or file i 0 ≡ 13 → line (drop i file) ≡ ok [] (end_length (hd (drop (i + 1) file)))
     line-13 e = ap line (drop-cons file i 0 h) ∙ rw (e, add-one)
-
-  -- how long a line end with 13 at i is
-  pub return-two : i + 1 < length file → get_or file (i + 1) 0 ≡ 10 → end_length (hd (drop (i + 1) file)) ≡ 2
-  return-two h e = ap (λ (l : List ℕ). end_length (hd l)) (drop-cons file (i + 1) 0 h) ∙ rw e
-
-  pub return-one : i + 1 < length file → (get_or file (i + 1) 0 ≡ 10 → ⊥) → end_length (hd (drop (i + 1) file)) ≡ 1
-  return-one h e = ap (λ (l : List ℕ). end_length (hd l)) (drop-cons file (i + 1) 0 h) ∙ rw (ne_eqb (get_or file (i + 1) 0) 10 e)
-
-  pub return-end : length file ≤ i + 1 → end_length (hd (drop (i + 1) file)) ≡ 1
-  return-end h = ap (λ (l : List ℕ). end_length (hd l)) (drop_of_length-le file h)
 
 -- every line can be read: its text is the first bytes, and it ends in the file
 pub record Good (s t : List ℕ) (n : ℕ) : Type 0 where
@@ -183,35 +181,35 @@ module _ (limit : ℕ) (file : List ℕ) {at r : ℕ} (s : Scan limit file at r)
         ∙ ap (λ (o : Option (ℕ × ℕ)). screen_or o (slice at r file ++ t) (r - at + n)) (refused-run file s.run
         s.high limit s.near (refused_byte limit) (λ i x t p h. rw (p, lt-ltb i limit h)) t)
 
-    pub run-refused : (k : ℕ) → refused_byte limit (r - at) t ≡ some (k, r - at)
-        → Refused (record { number = k; place = r }) ≡ line_at at (text_line limit (drop at file))
+    pub run-refused : (k : ℕ) → refused_byte limit (r - at) t ≡ Some (k, r - at)
+        → refused_at k r ≡ line_at at (text_line limit (drop at file))
     run-refused k f =
         let lo = s.run.low in
         let q : at + (r - at) ≡ r = omega arith in
         sym (ap (line_at at) (text-run ∙ ap (λ (o : Option (ℕ × ℕ)). screen_or o (slice at r file ++ t) (r - at + n)) f)
-        ∙ ap (λ (p : ℕ). Refused (record { number = k; place = p })) q)
+        ∙ ap (λ (p : ℕ). refused_at k p) q)
 
   -- the line ends where the run ends
-  pub run-line : (n next : ℕ) → next ≡ r + n → line (drop r file) ≡ ok [] n → Text r next ≡ line_at at (text_line limit (drop at file))
+  pub run-line : (n next : ℕ) → next ≡ r + n → line (drop r file) ≡ ok [] n → text_to r next ≡ line_at at (text_line limit (drop at file))
   run-line n next m e =
       let lo = s.run.low in
       let hi = s.high in
       let p : at + length (slice at r file ++ []) ≡ r = omega (arith, ap length (append-nil (slice at r file)), length-slice at r file (omega arith)) in
       let q : at + (r - at + n) ≡ next = omega arith in
-      sym (ap (line_at at) (text-run [] n e) ∙ (λ i. Text (p i) (q i)))
+      sym (ap (line_at at) (text-run [] n e) ∙ (λ i. text_to (p i) (q i)))
 
   -- the byte where the run ends is refused
   module _ (h : r < length file) (n10 : get_or file r 0 ≡ 10 → ⊥) (n13 : get_or file r 0 ≡ 13 → ⊥) where
     more : (t : List ℕ) (n : ℕ) → line (drop (suc r) file) ≡ ok t n → line (drop r file) ≡ ok (get_or file r 0 ∷ t) (suc n)
     more t n e = let b = get_or file r 0 in ap line (drop-cons file r 0 h) ∙ rw (ne_eqb b 10 n10, ne_eqb b 13 n13) (ap (add_byte b) e)
 
-    pub run-2 : textual (get_or file r 0) ≡ true → Refused (record { number = 2; place = r }) ≡ line_at at (text_line limit (drop at file))
+    pub run-2 : textual (get_or file r 0) ≡ true → refused_at 2 r ≡ line_at at (text_line limit (drop at file))
     run-2 e =
         let l = s.limits h e in
         let g = line-good (drop (suc r) file) in
         run-refused (get_or file r 0 ∷ g.0) (suc g.1) (more g.0 g.1 g.2.reads) 2 (rw (e, le-ltb (r - at) limit (omega arith)))
 
-    pub run-3 : textual (get_or file r 0) ≡ false → Refused (record { number = 3; place = r }) ≡ line_at at (text_line limit (drop at file))
+    pub run-3 : textual (get_or file r 0) ≡ false → refused_at 3 r ≡ line_at at (text_line limit (drop at file))
     run-3 e =
         let g = line-good (drop (suc r) file) in
         run-refused (get_or file r 0 ∷ g.0) (suc g.1) (more g.0 g.1 g.2.reads) 3 (rw e)
@@ -223,30 +221,39 @@ pub record Passed (test : List ℕ → Option (ℕ × ℕ)) (file : List ℕ) (a
   pub high : to ≤ next
   pub within : next ≤ length file
   pub reads : line (drop at file) ≡ ok (slice at to file) (next - at)
-  pub accepted : test (slice at to file) ≡ none
+  pub accepted : test (slice at to file) ≡ None
 
 -- by whether the text passes the test
 by-test : (test : List ℕ → Option (ℕ × ℕ)) (s : List ℕ) (P : Res (List ℕ) → Type 0)
-    → ((t : List ℕ) (n : ℕ) → Good s t n → test t ≡ none → P (ok t n))
-    → ((t : List ℕ) (n : ℕ) → Good s t n → (k p : ℕ) → test t ≡ some (k, p) → P (bad k p)) → P (screen test (line s))
+    → ((t : List ℕ) (n : ℕ) → Good s t n → test t ≡ None → P (ok t n))
+    → ((t : List ℕ) (n : ℕ) → Good s t n → (k p : ℕ) → test t ≡ Some (k, p) → P (bad k p)) → P (screen test (line s))
 by-test test s P good refused = let g = line-good s in subst P (ap (screen test) (sym g.2.reads)) (go g.0 g.1 g.2 (test g.0) refl)
   where
     go : (t : List ℕ) (n : ℕ) → Good s t n → (o : Option (ℕ × ℕ)) → test t ≡ o → P (screen_or (test t) t n)
-    go t n g none f = rw f (good t n g f)
-    go t n g (some r) f = rw f (refused t n g r.0 r.1 f)
+    go t n g None f = rw f (good t n g f)
+    go t n g (Some r) f = rw f (refused t n g r.0 r.1 f)
 
 module _ (test : List ℕ → Option (ℕ × ℕ)) (file : List ℕ) (at : ℕ) (inside : at ≤ length file) where
-  pub passed : (to next : ℕ) → Text to next ≡ line_at at (screen test (line (drop at file))) → Passed test file at to next
-  passed to next =
-      by-test test (drop at file) (λ (r : Res (List ℕ)). Text to next ≡ line_at at r → Passed test file at to next) good
+  pub passed : (l : Line) → Ok l ≡ line_at at (screen test (line (drop at file))) → Passed test file at l.to l.next
+  passed l =
+      by-test test (drop at file) (λ (r : Res (List ℕ)). Ok l ≡ line_at at r → Passed test file at l.to l.next) good
       (λ t n g k p f q. let z : ◌≡◌ {A = ℕ} 0 1 = cc in absurd (omega arith))
     where
-      good : (t : List ℕ) (n : ℕ) → Good (drop at file) t n → test t ≡ none → Text to next ≡ Text (at + length t) (at + n) → Passed test file at to next
+      end_of : Result Line Refusal → ℕ
+      end_of (Ok m) = m.to
+      end_of (Err r) = 0
+
+      next_of : Result Line Refusal → ℕ
+      next_of (Ok m) = m.next
+      next_of (Err r) = 0
+
+      good : (t : List ℕ) (n : ℕ) → Good (drop at file) t n → test t ≡ None → Ok l ≡ text_to (at + length t) (at + n)
+          → Passed test file at l.to l.next
       good t n g f q =
-          let p : to ≡ at + length t = cc in
-          let m : next ≡ at + n = cc in
-          let s : slice at to file ≡ t = ap (λ (k : ℕ). slice at k file) p ∙ slice-take file at (length t) inside ∙ g.front in
-          let w : n ≡ next - at = omega arith in
+          let p : l.to ≡ at + length t = ap end_of q in
+          let m : l.next ≡ at + n = ap next_of q in
+          let s : slice at l.to file ≡ t = ap (λ (k : ℕ). slice at k file) p ∙ slice-take file at (length t) inside ∙ g.front in
+          let w : n ≡ l.next - at = omega arith in
           record {
             low = omega arith;
             high = let h = g.short in omega arith;
@@ -255,168 +262,147 @@ module _ (test : List ℕ → Option (ℕ × ℕ)) (file : List ℕ) (at : ℕ) 
             accepted = ap test s ∙ f;
           }
 
-  pub says-text : (to next : ℕ) → Text to next ≡ line_at at (screen test (line (drop at file)))
-      → screen test (line (drop at file)) ≡ ok (slice at to file) (next - at)
-  says-text to next e =
-      let l = passed to next e in
-      ap (screen test) l.reads ∙ ap (λ (o : Option (ℕ × ℕ)). screen_or o (slice at to file) (next - at)) l.accepted
+  pub says-text : (l : Line) → Ok l ≡ line_at at (screen test (line (drop at file)))
+      → screen test (line (drop at file)) ≡ ok (slice at l.to file) (l.next - at)
+  says-text l e =
+      let p = passed l e in
+      ap (screen test) p.reads ∙ ap (λ (o : Option (ℕ × ℕ)). screen_or o (slice at l.to file) (l.next - at)) p.accepted
 
-  pub says-refused : (k p : ℕ) → Refused (record { number = k; place = p }) ≡ line_at at (screen test (line (drop at file)))
-      → (screen test (line (drop at file)) ≡ bad k (p - at)) × (at ≤ p)
-  says-refused k p =
-      by-test test (drop at file) (λ (r : Res (List ℕ)). Refused (record { number = k; place = p }) ≡ line_at at r → (r ≡ bad k (p - at)) × (at ≤ p))
+  pub says-refused : (r : Refusal) → Err r ≡ line_at at (screen test (line (drop at file)))
+      → (screen test (line (drop at file)) ≡ bad r.number (r.place - at)) × (at ≤ r.place)
+  says-refused r =
+      by-test test (drop at file)
+      (λ (s : Res (List ℕ)). Err r ≡ line_at at s → (s ≡ bad r.number (r.place - at)) × (at ≤ r.place))
       (λ t n g f q. let z : ◌≡◌ {A = ℕ} 0 1 = cc in absurd (omega arith)) (λ t n g j m f q. refused j m q)
     where
-      number : Line → ℕ
-      number (Refused r) = r.number
-      number (Text a b) = k
+      number : Result Line Refusal → ℕ
+      number (Err s) = s.number
+      number (Ok m) = 0
 
-      place : Line → ℕ
-      place (Refused r) = r.place
-      place (Text a b) = p
+      place : Result Line Refusal → ℕ
+      place (Err s) = s.place
+      place (Ok m) = 0
 
-      refused : (j m : ℕ) → Refused (record { number = k; place = p })
-          ≡ Refused (record { number = j; place = at + m }) → (◌≡◌ {A = Res (List ℕ)} (bad j m) (bad k (p - at)))
-          × (at ≤ p)
+      refused : (j m : ℕ) → Err r ≡ refused_at j (at + m)
+          → (◌≡◌ {A = Res (List ℕ)} (bad j m) (bad r.number (r.place - at))) × (at ≤ r.place)
       refused j m q =
-          let x : k ≡ j = ap number q in
-          let y : p ≡ at + m = ap place q in
-          let w : m ≡ p - at = omega arith in
+          let x : r.number ≡ j = ap number q in
+          let y : r.place ≡ at + m = ap place q in
+          let w : m ≡ r.place - at = omega arith in
           ((λ i. bad (sym x i) (w i)), omega arith)
 
 module _ (limit : ℕ) (file : List ℕ) (at : ℕ) (inside : at ≤ length file) where
-  pub text-passed : (to next : ℕ) → Text to next ≡ line_at at (text_line limit (drop at file)) → Passed (refused_byte limit 0) file at to next
+  pub text-passed : (l : Line) → Ok l ≡ line_at at (text_line limit (drop at file)) → Passed (refused_byte limit 0) file at l.to l.next
   unfolding text_line
   text-passed = passed (refused_byte limit 0) file at inside
 
   module _ (first : Bool) where
     -- a line that is refused as text is refused so as a header line
-    pub header_refused : (k p : ℕ) → Refused (record { number = k; place = p }) ≡ line_at at (text_line limit (drop at file))
-        → Refused (record { number = k; place = p }) ≡ line_at at (header_line limit first (drop at file))
+    pub header_refused : (r : Refusal) → Err r ≡ line_at at (text_line limit (drop at file))
+        → Err r ≡ line_at at (header_line limit first (drop at file))
     unfolding text_line header_line
-    header_refused k p =
+    header_refused r =
         by-test (refused_byte limit 0) (drop at file)
-        (λ (r : Res (List ℕ)). Refused (record { number = k; place = p }) ≡ line_at at r
-        → Refused (record { number = k; place = p }) ≡ line_at at (header_line limit first (drop at file)))
+        (λ (s : Res (List ℕ)). Err r ≡ line_at at s → Err r ≡ line_at at (header_line limit first (drop at file)))
         (λ t n g f q. let z : ◌≡◌ {A = ℕ} 0 1 = cc in absurd (omega arith)) (λ t n g j m f q. q ∙ sym (rw (g.reads, f)))
-
-    pub header-passed : (to next : ℕ) → Text to next ≡ line_at at (header_line limit first (drop at file))
-        → Passed (λ (t : List ℕ). or_malformed (refused_byte limit 0 t) (malformed first t)) file at to next
-    unfolding header_line
-    header-passed = passed (λ (t : List ℕ). or_malformed (refused_byte limit 0 t) (malformed first t)) file at inside
 
     module _ {to next : ℕ} (l : Passed (refused_byte limit 0) file at to next) where
       header-line : (b : Bool) → malformed first (slice at to file) ≡ b → header_line limit first (drop at file)
-          ≡ screen_or (or_malformed none b) (slice at to file) (next - at)
+          ≡ screen_or (or_malformed None b) (slice at to file) (next - at)
       unfolding header_line
       header-line b e =
           ap (screen (λ (t : List ℕ). or_malformed (refused_byte limit 0 t) (malformed first t))) l.reads
           ∙ (λ i. screen_or (or_malformed (l.accepted i) (e i)) (slice at to file) (next - at))
 
-      pub header-malformed : malformed first (slice at to file) ≡ true → Refused (record { number = 5; place = at })
-          ≡ line_at at (header_line limit first (drop at file))
+      part : slice at to file ≡ take (to - at) (drop at file)
+      part = slice-part file at to l.low (let hi = l.high in let wi = l.within in omega arith)
+
+      pub header-malformed : malformed first (take (to - at) (drop at file)) ≡ true
+          → refused_at 5 at ≡ line_at at (header_line limit first (drop at file))
       header-malformed e =
           let z : at + 0 ≡ at = omega arith in
-          sym (ap (line_at at) (header-line true e) ∙ ap (λ (p : ℕ). Refused (record { number = 5; place = p })) z)
+          sym (ap (line_at at) (header-line true (ap (malformed first) part ∙ e)) ∙ ap (λ (p : ℕ). refused_at 5 p) z)
 
-      pub header-text : malformed first (slice at to file) ≡ false → Text to next ≡ line_at at (header_line limit first (drop at file))
+      pub header-text : malformed first (take (to - at) (drop at file)) ≡ false
+          → text_to to next ≡ line_at at (header_line limit first (drop at file))
       header-text e =
           let lo = l.low in
           let hi = l.high in
           let wi = l.within in
           let p : at + length (slice at to file) ≡ to = omega (arith, length-slice at to file (omega arith)) in
           let q : at + (next - at) ≡ next = omega arith in
-          sym (ap (line_at at) (header-line false e) ∙ (λ i. Text (p i) (q i)))
+          sym (ap (line_at at) (header-line false (ap (malformed first) part ∙ e)) ∙ (λ i. text_to (p i) (q i)))
 
 -- ---- the name of a header
 
 -- whether a colon was found
 abbrev found : Option (List ℕ × List ℕ) → Bool
-found none = false
-found (some nv) = true
+found None = false
+found (Some nv) = true
 
 found_add : (x : ℕ) (o : Option (List ℕ × List ℕ)) → found (add_name x o) ≡ found o
-found_add x none = refl
-found_add x (some nv) = refl
+found_add x None = refl
+found_add x (Some nv) = refl
 
 named-add : (x : ℕ) (o : Option (List ℕ × List ℕ)) → some_name (add_name x o) ≡ found o
-named-add x none = refl
-named-add x (some nv) = refl
+named-add x None = refl
+named-add x (Some nv) = refl
 
 no-colon : (x : ℕ) → name_byte x ≡ true → eqb x 58 ≡ false
 no-colon x e = ne_eqb x 58 (λ q. let z : true ≡ false = sym e ∙ ap name_byte q in let w : ◌≡◌ {A = ℕ} 0 1 = cc in absurd (omega arith))
 
-module _ (file : List ℕ) {from to r : ℕ} (run : Run name_byte file from to r) (fits : to ≤ length file) where
-  at_name : (j : ℕ) → j < r → name_byte (get_or file j 0) ≡ true → split_colon (slice j to file) ≡ add_name (get_or file j 0) (split_colon (slice (suc j) to file))
-  at_name j h e = let hi = run.high in ap split_colon (slice-cons j to file 0 (omega arith) fits) ∙ rw (no-colon (get_or file j 0) e, e)
+module _ (text : List ℕ) {from r : ℕ} (run : Run name_byte text from (length text) r) where
+  at_name : (j : ℕ) → j < r → name_byte (get_or text j 0) ≡ true → split_colon (drop j text) ≡ add_name (get_or text j 0) (split_colon (drop (suc j) text))
+  at_name j h e = let hi = run.high in ap split_colon (drop-cons text j 0 (omega arith)) ∙ rw (no-colon (get_or text j 0) e, e)
 
-  found-run : found (split_colon (slice from to file)) ≡ found (split_colon (slice r to file))
+  found-run : found (split_colon (drop from text)) ≡ found (split_colon (drop r text))
   found-run =
-      by-run (λ (j : ℕ). found (split_colon (slice j to file)) ≡ found (split_colon (slice r to file))) run
-      (λ j h k e ih. ap found (at_name j k e) ∙ found_add (get_or file j 0) (split_colon (slice (suc j) to file)) ∙ ih) refl
+      by-run (λ (j : ℕ). found (split_colon (drop j text)) ≡ found (split_colon (drop r text))) run
+      (λ j h k e ih. ap found (at_name j k e) ∙ found_add (get_or text j 0) (split_colon (drop (suc j) text)) ∙ ih) refl
 
   -- at the stop: a colon, or none
-  found-colon : r < to → found (split_colon (slice r to file)) ≡ eqb (get_or file r 0) 58
-  found-colon h = ap (λ (l : List ℕ). found (split_colon l)) (slice-cons r to file 0 h fits) ∙ rw (run.stops h) (go (eqb (get_or file r 0) 58))
+  found-colon : r < length text → found (split_colon (drop r text)) ≡ eqb (get_or text r 0) 58
+  found-colon h = ap (λ (l : List ℕ). found (split_colon l)) (drop-cons text r 0 h) ∙ rw (run.stops h) (go (eqb (get_or text r 0) 58))
     where
-      go : (t : Bool) → found (cond t (some ([], slice (suc r) to file)) none) ≡ t
+      go : (t : Bool) → found (cond t (Some ([], drop (suc r) text)) None) ≡ t
       go true = refl
       go false = refl
 
-  no_name : r ≡ from → r < to → some_name (split_colon (slice from to file)) ≡ false
-  no_name e h = ap (λ (k : ℕ). some_name (split_colon (slice k to file))) (sym e)
-      ∙ ap (λ (l : List ℕ). some_name (split_colon l)) (slice-cons r to file 0 h fits) ∙ rw (run.stops h)
-      (go (eqb (get_or file r 0) 58))
-    where
-      go : (t : Bool) → some_name (cond t (some ([], slice (suc r) to file)) none) ≡ false
-      go true = refl
-      go false = refl
+-- a text that is not empty
+module _ (text : List ℕ) (first : Bool) (some_byte : 0 < length text) where
+  module _ (plain : blank (get_or text 0 0) ≡ false) {r : ℕ} (run : Run name_byte text 0 (length text) r) where
+    by_name : malformed first text ≡ not (some_name (split_colon text))
+    by_name = let s = drop-cons text 0 0 some_byte in ap (malformed first) s
+        ∙ rw plain (ap (λ (l : List ℕ). not (some_name (split_colon l))) (sym s))
 
-module _ (file : List ℕ) (from to : ℕ) (first : Bool) (fits : to ≤ length file) where
-  pub malformed-empty : from ≡ to → false ≡ malformed first (slice from to file)
-  malformed-empty e = sym (ap (λ (k : ℕ). malformed first (slice k to file)) e ∙ ap (malformed first) (slice_empty to file))
+    pub malformed-no-name : r ≡ 0 → true ≡ malformed first text
+    malformed-no-name e = sym (by_name ∙ ap (λ (l : List ℕ). not (some_name (split_colon l))) (drop-cons text 0 0 some_byte)
+        ∙ rw (ap (λ (k : ℕ). name_byte (get_or text k 0)) (sym e) ∙ run.stops (omega arith)) (go (eqb (get_or text 0 0) 58)))
+      where
+        go : (t : Bool) → not (some_name (cond t (Some ([], drop 1 text)) None)) ≡ true
+        go true = refl
+        go false = refl
 
-  module _ (some_byte : from < to) where
-    pub malformed-blank : blank (get_or file from 0) ≡ true → first ≡ malformed first (slice from to file)
-    malformed-blank e = sym (ap (malformed first) (slice-cons from to file 0 some_byte fits) ∙ rw e)
+    module _ (some-name : (r ≡ 0) → ⊥) where
+      colon-after : malformed first text ≡ not (found (split_colon (drop r text)))
+      colon-after =
+          let h : 0 < r = omega (arith, some-name) in
+          by_name
+          ∙ ap (λ (o : Option (List ℕ × List ℕ)). not (some_name o)) (at_name text run 0 h (run.each 0 (omega arith) h))
+          ∙ ap not (named-add (get_or text 0 0) (split_colon (drop 1 text)) ∙ found-run text (run-tail run h))
 
-    module _ (plain : blank (get_or file from 0) ≡ false) {r : ℕ} (run : Run name_byte file from to r) where
-      by_name : malformed first (slice from to file) ≡ not (some_name (split_colon (slice from to file)))
-      by_name = let s = slice-cons from to file 0 some_byte fits in ap (malformed first) s
-          ∙ rw plain (ap (λ (l : List ℕ). not (some_name (split_colon l))) (sym s))
+      pub malformed-no-colon : r ≡ length text → true ≡ malformed first text
+      malformed-no-colon e = sym (colon-after ∙ ap (λ (l : List ℕ). not (found (split_colon l))) (drop_of_length-le text {i = r} (omega arith)))
 
-      pub malformed-no-name : r ≡ from → true ≡ malformed first (slice from to file)
-      malformed-no-name e = sym (by_name ∙ ap not (no_name file run fits e (omega arith)))
-
-      module _ (some-name : (r ≡ from) → ⊥) where
-        colon-after : malformed first (slice from to file) ≡ not (found (split_colon (slice r to file)))
-        colon-after =
-            let lo = run.low in
-            let h : from < r = omega (arith, some-name) in
-            by_name
-            ∙ ap (λ (o : Option (List ℕ × List ℕ)). not (some_name o)) (at_name file run fits from h (run.each from (omega arith) h))
-            ∙ ap not (named-add (get_or file from 0) (split_colon (slice (suc from) to file)) ∙ found-run file (run-tail run h) fits)
-
-        pub malformed-no-colon : r ≡ to → true ≡ malformed first (slice from to file)
-        malformed-no-colon e = sym (colon-after ∙ ap (λ (k : ℕ). not (found (split_colon (slice k to file)))) e
-            ∙ ap (λ (l : List ℕ). not (found (split_colon l))) (slice_empty to file))
-
-        pub malformed-at : r < to → not (eqb (get_or file r 0) 58) ≡ malformed first (slice from to file)
-        malformed-at h = sym (colon-after ∙ ap not (found-colon file run fits h))
+      pub malformed-at : r < length text → not (eqb (get_or text r 0) 58) ≡ malformed first text
+      malformed-at h = sym (colon-after ∙ ap not (found-colon text run h))
 
 -- ---- the line end at a place
 
 pub end-moves : (o : Option ℕ) → 0 < end_length o
-end-moves none = omega arith
-end-moves (some y) = go (eqb y 10)
+end-moves None = omega arith
+end-moves (Some y) = go (eqb y 10)
   where
     go : (t : Bool) → 0 < cond t 2 1
     go true = omega arith
     go false = omega arith
-
-module _ (file : List ℕ) (i : ℕ) (h : i < length file) where
-  pub end-13 : get_or file i 0 ≡ 13 → end_from i (drop i file) ≡ i + end_length (hd (drop (i + 1) file))
-  end-13 e = ap (end_from i) (drop-cons file i 0 h) ∙ rw (e, add-one)
-
-  pub end-one : (get_or file i 0 ≡ 13 → ⊥) → end_from i (drop i file) ≡ i + 1
-  end-one e = ap (end_from i) (drop-cons file i 0 h) ∙ rw (ne_eqb (get_or file i 0) 13 e)

@@ -2,81 +2,32 @@
 -- with a word. Assumes nothing.
 use mathlib.Core.Path.{◌≡◌, refl, sym, ap, ◌∙◌, subst}
 use mathlib.Core.Bool.{Bool, true, false, not, ◌&&◌, ◌||◌, cond, and-false, and-true, true≢false}
-use mathlib.Core.Logic.{◌⊎◌, ⊎_elim}
 use mathlib.Core.List.{List, [], ◌∷◌}
 use Prim.Native.Nat.{ℕ, zero, suc, ◌+◌, ◌-◌, ◌≤◌, ◌<◌}
 use native.Mathlib.Omega.{arith}
 use native.Mathlib.Numerals.{add-one}
-use borrow.Author.Tests.{lt-ltb, le-ltb, le-leb, lt-leb, eq-eqb, ne_eqb, leb-true, leb-false, eqb-true, eqb-false}
-use lib.Dec.{leb, ltb, eqb}
+use borrow.Author.Tests.{eq-eqb, ne_eqb, leb-true, leb-false, eqb-true, eqb-false}
+use lib.Dec.{leb, eqb}
 use lib.ListN.{length, take, drop, get_or, drop_of_length-le}
-use lib.Seq.{slice, slice_empty, slice-cons, length-slice, drop-cons, get_or-drop, get_or-take}
-use Rattle.cbf_format.specs.Text.{blank, blanks, textual, letter, lower, lowers, same, skip}
+use lib.Seq.{slice, slice-cons, drop-cons, get_or-drop, get_or-take}
+use Rattle.cbf_format.specs.Text.{blank, blanks, textual, lower, lowers, same, skip}
 use Rattle.cbf_format.specs.Headers.{name_byte}
 use Rattle.cbf_format.specs.Base64.{symbol}
 use Rattle.cbf_lines.specs.Text.{Run, plain_byte, is_letter}
 
 -- ---- one byte
 
--- a letter, by its lower case
-pub letter-lower : (b l : ℕ) → l ≡ lower b → letter b ≡ (leb 97 l && leb l 122)
-letter-lower b l e = go (leb 65 b) (leb b 90) refl refl ∙ ap (λ (z : ℕ). leb 97 z && leb z 122) (sym e)
+pub plain-textual : (b : ℕ) → plain_byte b ≡ true → textual b ≡ true
+plain-textual b e = go (eqb b 9)
   where
-    go : (s t : Bool) → leb 65 b ≡ s → leb b 90 ≡ t
-        → ((s && t) || (leb 97 b && leb b 122)) ≡ (leb 97 (cond (s && t) (b + 32) b) && leb (cond (s && t) (b + 32) b) 122)
-    go true true p q = let f = leb-true 65 b p in let g = leb-true b 90 q in rw (le-leb 97 (b + 32) (omega arith), le-leb (b + 32) 122 (omega arith))
-    go true false p q = refl
-    go false t p q = refl
-
--- whether a byte is a text byte, by its range
-module _ (b : ℕ) where
-  pub plain-textual : plain_byte b ≡ true → textual b ≡ true
-  plain-textual e = go (eqb b 9)
-    where
-      go : (t : Bool) → (t || plain_byte b) ≡ true
-      go true = refl
-      go false = e
-
-  pub text-between : 32 ≤ b → b ≤ 126 → textual b ≡ true
-  text-between h l = plain-textual (rw (le-leb 32 b h, le-leb b 126 l))
-
-  pub text-under : b < 32 → (b ≡ 9 → ⊥) → textual b ≡ false
-  text-under h n = rw (ne_eqb b 9 n, lt-leb 32 b h)
-
-  pub text-over : 126 < b → textual b ≡ false
-  text-over h = rw (ne_eqb b 9 (omega arith), lt-leb b 126 h, and-false)
-
--- whether a byte is one of a name, from the small letters on
-module _ (b : ℕ) (h : 97 ≤ b) where
-  pub small-letter : b ≤ 122 → name_byte b ≡ true
-  small-letter l = rw (le-leb 65 b (omega arith), lt-leb b 90 (omega arith), le-leb 97 b h, le-leb b 122 l)
-
-  pub past-letters : 122 < b → name_byte b ≡ false
-  past-letters l =
-      rw (
-        le-leb 65 b (omega arith),
-        lt-leb b 90 (omega arith),
-        le-leb 97 b h,
-        lt-leb b 122 l,
-        le-leb 48 b
-            (omega arith),
-        lt-leb b 57 (omega arith),
-        ne_eqb b 45 (omega arith),
-      )
+    go : (t : Bool) → (t || plain_byte b) ≡ true
+    go true = refl
+    go false = e
 
 pub name-no-colon : (x : ℕ) → name_byte x ≡ true → not (eqb x 58) ≡ true
 name-no-colon x e = ap not (ne_eqb x 58 (λ q. true≢false (sym e ∙ ap name_byte q)))
 
--- ---- a flag that is set where a byte is between two numbers
-
-abbrev pub between : ℕ → ℕ → ℕ → Bool
-between lo hi b = ltb lo b && ltb b hi
-
-pub flag-between : (lo hi b : ℕ) (flag : Bool) {next : Bool} {A B C : Type 0} → A ⊎ (B ⊎ C)
-    → (A → (lo < b) × (b < hi) × (next ≡ true)) → (B → (hi ≤ b) × (next ≡ flag)) → (C → (b ≤ lo) × (next ≡ flag)) → next ≡ (between lo hi b || flag)
-flag-between lo hi b flag came set over under =
-    ⊎_elim (λ x. let s = set x in rw (lt-ltb lo b s.0, lt-ltb b hi s.1) s.2)
-    (⊎_elim (λ x. let s = over x in rw (le-ltb b hi s.0, and-false) s.1) (λ x. let s = under x in rw (le-ltb lo b s.0) s.1)) came
+-- ---- tests of all bytes
 
 -- a test that all numbers below n pass
 abbrev pub every : (ℕ → Bool) → ℕ → Bool
@@ -104,21 +55,18 @@ tests_agree f g n e b h = go (f b) (g b) (every-at (λ (x : ℕ). equal (f x) (g
     go false true e = e
     go false false e = refl
 
--- the gaps between the letters of BASE64
-abbrev no_letter : ℕ → Bool
-no_letter b = ltb 122 b || (between 90 97 b || (between 57 65 b || (between 43 47 b || ltb b 43)))
+-- the letters of BASE64
+abbrev letter_ranges : ℕ → Bool
+letter_ranges b =
+    ((eqb b 43 || (leb 47 b && leb b 57)) || (leb 65 b && leb b 90)) || (leb 97 b && leb b 122)
 
-pub letter-gaps : (b : ℕ) → b < 256 → not (no_letter b) ≡ is_letter (symbol b)
+pub letter-ranges : (b : ℕ) → b < 256 → letter_ranges b ≡ is_letter (symbol b)
 unfolding symbol
-letter-gaps b h = tests_agree (λ (x : ℕ). not (no_letter x)) (λ (x : ℕ). is_letter (symbol x)) 256 refl b h
+letter-ranges b h = tests_agree letter_ranges (λ (x : ℕ). is_letter (symbol x)) 256 refl b h
 
 -- ---- runs
 
 module _ {test : ℕ → Bool} {file : List ℕ} where
-  -- a loop that passes bytes, one after another, until a byte fails the test or the text ends
-  pub run-start : (at : ℕ) → Run test file at at at
-  run-start at = record { low = omega arith; high = omega arith; each = λ j h k. absurd (omega arith); stops = λ h. absurd (omega arith) }
-
   -- a run up to m, and on from there
   pub run-then : {from m to r : ℕ} → Run test file from m m → Run test file m to r → Run test file from to r
   run-then {from} {m} {to} {r} a b = record {
@@ -141,9 +89,6 @@ module _ {test : ℕ → Bool} {file : List ℕ} where
         each = λ j h k. let q : i ≡ j = omega arith in subst (λ (z : ℕ). test (get_or file z 0) ≡ true) q e;
         stops = λ h. absurd (omega arith);
       })
-
-  pub run-to : {from i : ℕ} → Run test file from i i → (k : ℕ) → i ≡ k → Run test file from k k
-  run-to {from} r k e = subst (λ (z : ℕ). Run test file from z z) e r
 
   -- bytes that pass a test pass a weaker one
   pub run-weaker : {other : ℕ → Bool} {from i : ℕ} → Run test file from i i → ((x : ℕ) → test x ≡ true → other x ≡ true) → Run other file from i i
@@ -170,28 +115,29 @@ pub get_or-slice : (f t : ℕ) (l : List ℕ) (i : ℕ) → f + i < t → get_or
 get_or-slice f t l i h = get_or-drop f (take t l) i 0 ∙ get_or-take t l (f + i) 0 h
 
 module _ (file : List ℕ) {from to r : ℕ} (run : Run blank file from to r) (fits : to ≤ length file) where
-  -- a text is blanks, where its end is reached over them
-  pub blanks-run : blanks (slice from to file) ≡ blanks (slice r to file)
-  blanks-run =
-      by-run (λ (j : ℕ). blanks (slice j to file) ≡ blanks (slice r to file)) run
-      (λ j h k e ih. let hi = run.high in ap blanks (slice-cons j to file 0 (omega arith) fits) ∙ rw e ih) refl
-
-  pub blanks-test : eqb r to ≡ blanks (slice from to file)
-  blanks-test = go (eqb r to) refl
-    where
-      go : (t : Bool) → eqb r to ≡ t → t ≡ blanks (slice from to file)
-      go true e = sym (blanks-run ∙ ap (λ (z : ℕ). blanks (slice z to file)) (eqb-true r to e) ∙ ap blanks (slice_empty to file))
-      go false e =
-          let d = eqb-false r to e in
-          let hi = run.high in
-          let h : r < to = omega arith in
-          sym (blanks-run ∙ ap blanks (slice-cons r to file 0 h fits) ∙ rw (run.stops h))
-
   -- without the blanks in front, the same
   pub skip-run : skip (slice from to file) ≡ skip (slice r to file)
   skip-run =
       by-run (λ (j : ℕ). skip (slice j to file) ≡ skip (slice r to file)) run
       (λ j h k e ih. let hi = run.high in ap skip (slice-cons j to file 0 (omega arith) fits) ∙ rw e ih) refl
+
+-- a text is blanks, where its end is reached over them
+module _ (text : List ℕ) {r : ℕ} (run : Run blank text 0 (length text) r) where
+  blanks-run : blanks text ≡ blanks (drop r text)
+  blanks-run =
+      by-run (λ (j : ℕ). blanks (drop j text) ≡ blanks (drop r text)) run
+      (λ j h k e ih. let hi = run.high in ap blanks (drop-cons text j 0 (omega arith)) ∙ rw e ih) refl
+
+  pub blanks-test : eqb r (length text) ≡ blanks text
+  blanks-test = go (eqb r (length text)) refl
+    where
+      go : (t : Bool) → eqb r (length text) ≡ t → t ≡ blanks text
+      go true e = let q = eqb-true r (length text) e in sym (blanks-run ∙ ap blanks (drop_of_length-le text {i = r} (omega arith)))
+      go false e =
+          let d = eqb-false r (length text) e in
+          let hi = run.high in
+          let h : r < length text = omega arith in
+          sym (blanks-run ∙ ap blanks (drop-cons text r 0 h) ∙ rw (run.stops h))
 
 -- ---- comparison, byte by byte
 
@@ -203,13 +149,6 @@ pub get_or-lowers : (l : List ℕ) (i : ℕ) → get_or (lowers l) i 0 ≡ lower
 get_or-lowers [] i = refl
 get_or-lowers (x ∷ l) zero = refl
 get_or-lowers (x ∷ l) (suc i) = get_or-lowers l i
-
-module _ (f t : ℕ) (file : List ℕ) where
-  pub lowers_at : (i : ℕ) → f + i < t → get_or (lowers (slice f t file)) i 0 ≡ lower (get_or file (f + i) 0)
-  lowers_at i h = get_or-lowers (slice f t file) i ∙ ap lower (get_or-slice f t file i h)
-
-  pub length-lowered : t ≤ length file → length (lowers (slice f t file)) ≡ t - f
-  length-lowered h = length-lowers (slice f t file) ∙ length-slice f t file h
 
 pub same-lengths : (xs ys : List ℕ) → (length xs ≡ length ys → ⊥) → same xs ys ≡ false
 same-lengths [] [] n = absurd (n refl)

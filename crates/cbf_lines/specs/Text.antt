@@ -1,27 +1,20 @@
--- Runs of bytes of one class, at places of the file. Places are whole file offsets.
-use Rattle.std.specs.Prelude.{Bool, true, false, not, ◌&&◌, ℕ, ◌<◌, ◌≤◌, eqb, leb, ◌≡◌, List, get_or}
+-- Runs of bytes that pass a test, at places of the file. Places are whole file offsets.
+use Rattle.std.specs.Prelude.{Bool, true, false, ◌&&◌, ℕ, ◌<◌, ◌≤◌, leb, ◌≡◌, List, get_or}
 use Rattle.cbf_format.specs.declared.Symbol.{Symbol}
-use Rattle.cbf_format.specs.Text.{blank}
-use Rattle.cbf_format.specs.Base64.{symbol}
-use Rattle.cbf_lines.specs.declared.text.Class.{Class}
-use Rattle.cbf_lines.specs.declared.text.Class.TheVariants.{Blank, NotBlank, Not, Plain, Base64Letter}
-use Rattle.cbf_format.specs.declared.Symbol.TheVariants as S
+use Rattle.cbf_format.specs.declared.Symbol.TheVariants.{Letter, Pad, Blank, Other}
 
 abbrev pub plain_byte : ℕ → Bool
 plain_byte x = leb 32 x && leb x 126
 
 abbrev pub is_letter : Symbol → Bool
-is_letter (S.Letter n) = true
-is_letter S.Pad = false
-is_letter S.Blank = false
-is_letter S.Other = false
+is_letter (Letter n) = true
+is_letter Pad = false
+is_letter Blank = false
+is_letter Other = false
 
-abbrev pub in_class : Class → ℕ → Bool
-in_class Blank x = blank x
-in_class NotBlank x = not (blank x)
-in_class (Not y) x = not (eqb x y)
-in_class Plain x = plain_byte x
-in_class Base64Letter x = is_letter (symbol x)
+-- a test of bytes, by what its calls may give, gives what t says of each byte
+abbrev pub Gives : (ℕ → Bool → Type 0) → (ℕ → Bool) → Type 0
+Gives post t = (b : ℕ) (r : Bool) → b < 256 → post b r → r ≡ t b
 
 -- the bytes from `from` up to r pass a test, and r is `to` or its byte does not
 pub record Run (test : ℕ → Bool) (file : List ℕ) (from to r : ℕ) : Type 0 where

@@ -8,11 +8,11 @@ ghost use Rattle.cbf_answers.specs.Limits.{line_limit};
 ghost use Rattle.cbf_format.specs.Files.{read};
 ghost use Rattle.cbf_list.specs.Texts.{list_text, text_outcome};
 
-use cbf::{Answer, LINE_LIMIT, Refusal};
+use cbf::{LINE_LIMIT, Reason, Refusal};
 use std::io::{self, Read, Write};
 
 // Writes the text for what was read; more says that the input did not end there.
-fn text(file: &[u8], more: bool, out: &mut [u8]) -> Answer
+fn text(file: &[u8], more: bool, out: &mut [u8]) -> Result<usize, Refusal>
     ensures answer { outcome result
         ≡ text_outcome more (read line_limit file.now) (length out.old) }
     ensures output { out.new
@@ -20,13 +20,7 @@ fn text(file: &[u8], more: bool, out: &mut [u8]) -> Answer
         (list_text more (read line_limit file.now) (length out.old)) out.old }
 {
     if more {
-        return cbf::refusal_line(
-            Refusal {
-                number: 4,
-                place: 0,
-            },
-            out,
-        );
+        return cbf::refusal_line(Reason::TooLarge.at(0), out);
     }
     cbf::listing_or_refusal(file, LINE_LIMIT, out)
 }
@@ -49,15 +43,12 @@ fn read_full<R: Read>(reader: &mut R, buffer: &mut [u8]) -> io::Result<usize>
     Ok(done)
 }
 
-// Writes the first n bytes. Room is never wanting: 512 lines of at most 122 bytes are less than the buffer's 65,536.
-fn print(rt: &impl Print, answer: Answer, out: &[u8]) -> io::Result<()> {
-    match answer {
-        Answer::Refused(r) => {}
-        Answer::Length(n) => {
-            if n <= out.len() {
-                io::writer(rt).write_all(&out[..n])?;
-            }
-        }
+// Writes the bytes of the text. Room is never wanting: 512 lines of at most 122 bytes are less than the buffer's 65,536.
+fn print(rt: &impl Print, answer: Result<usize, Refusal>, out: &[u8]) -> io::Result<()> {
+    if let Ok(n) = answer
+        && n <= out.len()
+    {
+        io::writer(rt).write_all(&out[..n])?;
     }
     Ok(())
 }

@@ -1,6 +1,7 @@
 -- The lines of the sections that a walk over a file came past: their length, where they are written, and the room for
 -- the next one. Assumes nothing.
 use mathlib.Core.Path.{◌≡◌, refl, sym, ap, ◌∙◌}
+use Rattle.std.specs.Prelude.{Option, None, Some, Result, Ok, Err}
 use mathlib.Core.Bool.{Bool, true, false}
 use mathlib.Core.List.{List, [], ◌∷◌, ◌++◌, append_assoc, append-nil}
 use Prim.Native.Nat.{ℕ, suc, ◌+◌, ◌*◌, ◌≤◌, ◌<◌}
@@ -16,16 +17,13 @@ use Rattle.cbf_reader.specs.Walk.{whole, start_cursor, ReadTo, SectionOf, NextSa
 use Rattle.cbf_reader.specs.declared.step.Cursor.{Cursor}
 use Rattle.cbf_format.specs.declared.Section.{Section}
 use Rattle.cbf_reader.specs.declared.walk.NextSection.{NextSection}
-use Rattle.cbf_reader.proofs.LoopLaws.{LoopAt, loop-start, LoopMore, AllRead, loop-count, loop-front, loop-past}
+use Rattle.cbf_reader.proofs.LoopLaws.{LoopAt, loop-start, LoopMore, AllRead, loop-count, loop-front}
 use Rattle.cbf_reader.proofs.LoopLaws.{loop-refused, loop-end, loop-more, refused-off}
 use Rattle.cbf_listing.specs.SectionLine.{line_for}
 use Rattle.cbf_listing.specs.Lines.{lines_of, lines_in, Fits}
-use Rattle.cbf_listing.specs.declared.lines.Measured.{Measured}
-use Rattle.cbf_listing.specs.declared.lines.Measured.TheVariants.{Refused, Length}
 use Rattle.cbf_write.proofs.PutLaws.{Put, put_if, put-if-length, put-if-none, put-if-off, put-if-more}
 use Rattle.cbf_format.specs.Sections as S
 use Rattle.cbf_format.specs.Files as F
-use Rattle.cbf_reader.specs.declared.walk.NextSection.TheVariants as W
 
 -- ---- lines
 
@@ -80,7 +78,7 @@ lines-in true r old = refl
 lines-in false r old = refl
 
 -- what is answered for a reading of the file, and what is then in the output
-abbrev Answered : Reading (Item F.State S.Section) → Bool → List ℕ → Measured → List ℕ → Type 0
+abbrev Answered : Reading (Item F.State S.Section) → Bool → List ℕ → Result ℕ Refusal → List ℕ → Type 0
 Answered r writing old m out = (m ≡ lines_of r) × (out ≡ lines_in writing r old)
 
 -- ---- the loop
@@ -109,32 +107,34 @@ module _ {limit : ℕ} {file old : List ℕ} {writing : Bool} {c : Cursor} {at :
   pub listed_kept : length out ≡ length old
   listed_kept = ap length k.holds ∙ put-if-length writing old 0 (listing (good done))
 
-  ended : AllRead k.here → Answered (whole limit file) writing old (Length at) out
+  ended : AllRead k.here → Answered (whole limit file) writing old (Ok at) out
   unfolding listing
   ended all =
       let e : listing (good done) ≡ listing (good all.0) = ap (section_lines 1) (sym all.2) in
-      rw all.1 (ap Length (k.length_is ∙ ap length e), k.holds ∙ ap (put_if writing old 0) e ∙ lines-in writing (good all.0) old)
-
-  -- the file ends at the cursor
-  pub listed-past : 0 < length file → length file ≤ c.at → Answered (whole limit file) writing old (Length at) out
-  listed-past some_byte past = ended (loop-past k.here some_byte past)
+      rw all.1 (ap Ok (k.length_is ∙ ap length e), k.holds ∙ ap (put_if writing old 0) e ∙ lines-in writing (good all.0) old)
 
   -- what reading on from the cursor gave
-  module _ {r : NextSection} (says : (done : F.Tree) → ReadTo limit file done c → NextSays limit file done r) where
+  module _ {r : Result (Option NextSection) Refusal} (says : (done : F.Tree) → ReadTo limit file done c → NextSays limit file done r) where
     -- nothing was written of a refused file
-    pub listed-refused : {q : Refusal} → (writing ≡ true → Fits (whole limit file) old) → r ≡ W.Refused q
-        → Answered (whole limit file) writing old (Refused q) out
+    pub listed-refused : {q : Refusal} → (writing ≡ true → Fits (whole limit file) old) → r ≡ Err q
+        → Answered (whole limit file) writing old (Err q) out
     listed-refused {q} fits is =
         let e = loop-refused k.here says is in
         let off = refused-off writing (λ on. ((fits on).0, (fits on).1)) e in
         let r = refused q.number q.place in
         rw e (refl, k.holds ∙ put-if-off writing old 0 (listing (good done)) (listing r) off ∙ lines-in writing r old)
 
-    pub listed-end : r ≡ W.End → Answered (whole limit file) writing old (Length at) out
+    pub listed-end : r ≡ Ok None → Answered (whole limit file) writing old (Ok at) out
     listed-end is = ended (loop-end k.here says is)
 
     -- a section more
-    module _ {s : Section} {d : Cursor} (is : r ≡ W.Found s d) where
+    module _ {n : NextSection} (is : r ≡ Ok (Some n)) where
+      abbrev s : Section
+      s = n.section
+
+      abbrev d : Cursor
+      d = n.after
+
       abbrev found : LoopMore k.here s d
       found = loop-more k.here says is
 

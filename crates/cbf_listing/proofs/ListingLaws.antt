@@ -1,6 +1,7 @@
 -- What is answered where the lent output has room for a text and where it has not, for the listing of a file and for
 -- the line of a refusal. Assumes nothing.
 use mathlib.Core.Path.{◌≡◌, refl, ◌∙◌}
+use Rattle.std.specs.Prelude.{Result, Ok, Err}
 use mathlib.Core.Bool.{Bool, true}
 use mathlib.Core.List.{List, [], ◌∷◌, ◌++◌}
 use Prim.Native.Nat.{ℕ, ◌+◌, ◌≤◌, ◌<◌}
@@ -15,7 +16,6 @@ use Rattle.cbf_answers.specs.Rooms.{room_for}
 use Rattle.cbf_answers.proofs.Rooms.{Says, refusal, no_room, has_room}
 use Rattle.cbf_format.specs.ListCalls.{list_outcome, shown}
 use Rattle.cbf_listing.specs.Lines.{lines_of, lines_in, Fits}
-use Rattle.cbf_listing.specs.declared.lines.Measured.TheVariants.{Refused, Length}
 use Rattle.cbf_write.proofs.PutLaws.{Put, put_both}
 use Rattle.cbf_reader.proofs.LoopLaws.{refused-off}
 use Rattle.cbf_format.specs.Sections as S
@@ -26,27 +26,27 @@ use Rattle.cbf_format.specs.Files as F
 -- a file that is refused has no lines, and none are written: an output that fits has a file that is accepted
 pub refused-lines : (writing : Bool) (old : List ℕ) (f : Refusal)
     → (writing ≡ true → Fits (refused f.number f.place) old)
-    → (Refused f ≡ lines_of (refused f.number f.place)) × (old ≡ lines_in writing (refused f.number f.place) old)
+    → (Err f ≡ lines_of (refused f.number f.place)) × (old ≡ lines_in writing (refused f.number f.place) old)
 refused-lines writing old f fits = (refl, rw (refused-off writing (λ on. ((fits on).0, (fits on).1)) refl))
 
-pub list-refused : (r : Reading (Item F.State S.Section)) (old : List ℕ) (f : Refusal) → Refused f ≡ lines_of r
+pub list-refused : (r : Reading (Item F.State S.Section)) (old : List ℕ) (f : Refusal) → Err f ≡ lines_of r
     → Says (list_outcome r (length old)) (listing r) old (refuses f.number f.place) old
 unfolding list_outcome
 list-refused (refused k p) old f e = refusal (listing (refused k p)) old (cc)
 list-refused (good its) old f e = let z : ◌≡◌ {A = ℕ} 0 1 = cc in absurd (omega arith)
 
 -- a file with a length of its lines is accepted
-accepted : (r : Reading (Item F.State S.Section)) (n : ℕ) → Length n ≡ lines_of r
+accepted : (r : Reading (Item F.State S.Section)) (n : ℕ) → Ok n ≡ lines_of r
     → (its : F.Tree) × (r ≡ good its) × (n ≡ length (listing r)) × ((room : ℕ) → list_outcome r room ≡ room_for (listing r) room)
 unfolding list_outcome
 accepted (refused k p) n e = let z : ◌≡◌ {A = ℕ} 0 1 = cc in absurd (omega arith)
 accepted (good its) n e = (its, refl, cc, λ room. refl)
 
-pub list-no-room : (r : Reading (Item F.State S.Section)) (old : List ℕ) (n : ℕ) → Length n ≡ lines_of r → length old < n
+pub list-no-room : (r : Reading (Item F.State S.Section)) (old : List ℕ) (n : ℕ) → Ok n ≡ lines_of r → length old < n
     → Says (list_outcome r (length old)) (listing r) old (refuses 15 0) old
 list-no-room r old n e h = let a = accepted r n e in no_room (listing r) old (a.3 (length old)) a.2 h
 
-pub list-has-room : (r : Reading (Item F.State S.Section)) (old : List ℕ) (n : ℕ) → Length n ≡ lines_of r → n ≤ length old
+pub list-has-room : (r : Reading (Item F.State S.Section)) (old : List ℕ) (n : ℕ) → Ok n ≡ lines_of r → n ≤ length old
     → Fits r old × Says (list_outcome r (length old)) (listing r) old (gives n) (lines_in true r old)
 list-has-room r old n e h =
     let a = accepted r n e in

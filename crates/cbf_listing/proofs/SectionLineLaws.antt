@@ -4,12 +4,11 @@ use mathlib.Core.List.{List, [], ◌∷◌, ◌++◌, append_assoc}
 use Prim.Native.Nat.{ℕ, ◌+◌, ◌-◌, ◌≤◌, ◌<◌}
 use native.Mathlib.Omega.{arith}
 use lib.ListN.{length, take, drop, length-append}
-use lib.Seq.{slice, length-sets, length-slice, slice_empty}
-use Rattle.cbf_pixels.specs.declared.ElementType.{ElementType}
-use Rattle.cbf_pixels.specs.declared.Compression.{Compression}
+use lib.Seq.{slice, sets, length-sets}
+use Rattle.cbf_format.specs.declared.Description.{Description}
+use Rattle.cbf_format.specs.declared.Section.{Section}
 use Rattle.cbf_format.specs.Listing.{printed, compression_name, type_name, named, spaced, section_text}
-use Rattle.cbf_format.proofs.Slices.{slice-part}
-use Rattle.cbf_listing.specs.SectionLine.{figures}
+use Rattle.cbf_listing.specs.SectionLine.{line_for, figures}
 use Rattle.cbf_write.proofs.PutLaws.{Put}
 
 -- ---- the room for a text, and for what follows it
@@ -21,35 +20,45 @@ pub rest-fits : (old : List ℕ) (at : ℕ) (a b : List ℕ) {r : ℕ} {mid : Li
     → Put old at a r mid → r + length b ≤ length mid
 rest-fits old at a b h p = omega (arith, length-append a b, ap length p.1 ∙ length-sets old at a)
 
+-- a text that was put, under another name
+pub put-as : (old : List ℕ) (at : ℕ) {text other : List ℕ} {r : ℕ} {new : List ℕ} → text ≡ other → r ≡ at + length text → new ≡ sets old at text
+    → Put old at other r new
+put-as old at e p q = rw (← e) (p, q)
+
 -- ---- the pieces of a line
 
-named_some : (t : List ℕ) → 0 < length t → named t ≡ 32 ∷ t
+pub named_some : (t : List ℕ) → 0 < length t → named t ≡ (32 ∷ []) ++ t
 named_some [] h = absurd (omega arith)
 named_some (x ∷ t) h = refl
 
-module _ (file : List ℕ) (from to : ℕ) where
-  pub name-empty : from ≡ to → named (slice from to file) ≡ []
-  name-empty e = rw (e, slice_empty) refl
+pub length-named : (t : List ℕ) → 0 < length t → length (named t) ≡ 1 + length t
+length-named t h = rw (named_some t h) (omega arith)
 
-  name-some : from < to → to ≤ length file → named (slice from to file) ≡ 32 ∷ slice from to file
-  name-some h k = named_some (slice from to file) (omega (arith, length-slice from to file k))
+module _ (file : List ℕ) (number : ℕ) (s : Section) where
+  abbrev name : List ℕ
+  name = slice s.block.from s.block.to file
 
-  pub name-pieces : from < to → to ≤ length file → named (slice from to file) ≡ (32 ∷ []) ++ take (to - from) (drop from file)
-  name-pieces h k = name-some h k ∙ ap (λ (t : List ℕ). 32 ∷ t) (slice-part file from to (omega arith) k)
+  abbrev d : Description
+  d = s.description
 
-  pub name-length : from < to → to ≤ length file → 1 + (to - from) ≡ length (named (slice from to file))
-  name-length h k = omega (arith, length-slice from to file k, ap length (name-some h k))
+  abbrev numbers : List ℕ
+  numbers = figures number s.first d.size d.elements
 
-module _ (number at size elements : ℕ) (c : Compression) (t : ElementType) (name : List ℕ) where
   pub line-pieces :
-      section_text number at size elements c t name
-      ≡ figures number at size elements ++ (spaced (compression_name c) [] ++ (type_name t ++ (named name ++ (10 ∷ []))))
+      line_for file number s
+      ≡ numbers ++ (compression_name d.compression ++ ((32 ∷ []) ++ (type_name d.kind ++ (named name ++ (10 ∷ [])))))
   unfolding section_text
   line-pieces = simp append_assoc
 
+  -- the room that they take
+  pub line-room :
+      length (line_for file number s)
+      ≡ length numbers + (length (compression_name d.compression) + (1 + (length (type_name d.kind) + (length (named name) + 1))))
+  line-room = rw line-pieces (simp length-append (omega arith))
+
   pub line-lengths :
-      length (section_text number at size elements c t name)
-      ≡ length (printed number) + length (printed at) + length (printed size) + length (printed elements) +
-      (length (compression_name c) + length (type_name t)) + length (named name) + 6
+      length (line_for file number s)
+      ≡ length (printed number) + length (printed s.first) + length (printed d.size) + length (printed d.elements)
+      + (length (compression_name d.compression) + length (type_name d.kind)) + length (named name) + 6
   unfolding section_text
   line-lengths = simp length-append (omega arith)

@@ -7,52 +7,43 @@ ghost use Rattle.cbf_format.specs.Files as F;
 
 use crate::section_line;
 use cbf_answers::Refusal;
-use cbf_reader::{Cursor, NextSection, Start};
+use cbf_reader::Cursor;
 
-// The refusal of a file, or the length of its lines.
-#[derive(Clone, Copy)]
-pub enum Measured {
-    Refused(Refusal),
-    Length(usize),
-}
-
-// The lines from the first one on; writing says whether they go to out.
-fn lines_from(file: &[u8], limit: usize, out: &mut [u8], writing: bool, c: Cursor) -> Measured
-    requires { (c ≡ start_cursor) × (0 < length file.now) × (length file.now ≤ file_limit)
+// The lines from the first one on; writing says whether they go to out. A closure in its place would have to be lent
+// out and say by a fold over the sections what `lines_in` says here of the whole.
+fn lines_from(
+    file: &[u8],
+    limit: usize,
+    out: &mut [u8],
+    writing: bool,
+    first: Cursor,
+) -> Result<usize, Refusal>
+    requires { (first ≡ start_cursor) × (0 < length file.now) × (length file.now ≤ file_limit)
         × (writing ≡ true → Fits (whole limit file.now) out.old) }
     ensures value { result ≡ lines_of (whole limit file.now) }
     ensures out_after { out.new ≡ lines_in writing (whole limit file.now) out.old }
 {
-    let mut cursor = c;
+    let mut cursor = first;
     let mut at: usize = 0;
-    while cursor.at < file.len() {
-        let next = cbf_reader::next_section(file, cursor, limit);
-        match next {
-            NextSection::Refused(r) => return Measured::Refused(r),
-            NextSection::End => return Measured::Length(at),
-            NextSection::Found(section, d) => {
-                if writing {
-                    at = section_line::put_line(file, section, d.count, out, at);
-                } else {
-                    at = at + section_line::line_length(section, d.count);
-                }
-                cursor = d;
-            }
-        }
+    while let Some(next) = cbf_reader::next_section(file, cursor, limit)? {
+        let number = next.after.count;
+        at = if writing {
+            section_line::put_line(file, next.section, number, out, at)
+        } else {
+            at + section_line::line_length(next.section, number)
+        };
+        cursor = next.after;
     }
-    Measured::Length(at)
+    Ok(at)
 }
 
 // The lines of a file whose text lines have at most limit characters. They are written only to an output that is
 // known to have room.
-pub fn lines(file: &[u8], limit: usize, out: &mut [u8], writing: bool) -> Measured
+pub fn lines(file: &[u8], limit: usize, out: &mut [u8], writing: bool) -> Result<usize, Refusal>
     requires { writing ≡ true → Fits (F.read limit file.now) out.old }
     ensures value { result ≡ lines_of (F.read limit file.now) }
     ensures out_after { out.new ≡ lines_in writing (F.read limit file.now) out.old }
 {
-    let started = cbf_reader::begin(file);
-    match started {
-        Start::Refused(r) => Measured::Refused(r),
-        Start::At(c) => lines_from(file, limit, out, writing, c),
-    }
+    let first = cbf_reader::begin(file)?;
+    lines_from(file, limit, out, writing, first)
 }

@@ -1,42 +1,19 @@
 -- How many octets packed pixels take, part by part, and whether one of them is outside its type. Assumes nothing.
-use Rattle.std.proofs.Common.{◌≡◌, ℕ, zero, suc, ◌+◌, ◌-◌, ◌*◌, ◌^◌, ◌<◌, ◌≤◌, Bool, true, false, cond, ltb, List, [], ◌∷◌, ◌++◌, length, get_or, take, drop, ℤ, pos, negsuc, ◌-ℤ◌, nat_abs, sym, refl, ap, ◌∙◌, subst, ap₂, append_assoc, append-nil, arith, length-append, length-drop, length-take-le, drop-cons, to_z-of_z, w64, SFits, to_z, of_z, ltb-false, ltb-true, le-ltb, lt-ltb, le-leb, leb-false, leb-true}
+use Rattle.std.proofs.Common.{◌≡◌, ℕ, zero, suc, ◌+◌, ◌-◌, ◌*◌, ◌^◌, ◌<◌, ◌≤◌, Bool, true, false, cond, List, [], ◌∷◌, ◌++◌, length, get_or, take, ℤ, pos, negsuc, ◌-ℤ◌, sym, refl, ap, ◌∙◌, subst, ap₂, append_assoc, append-nil, arith, length-append, drop-cons, to_z-of_z, w64, to_z, of_z, ltb-false, ltb-true, le-leb}
 use lib.Seq.{take-length}
 use lib.Signed.{mag, le_z, lt_z}
 use borrow.Author.Tests.{lt-leb}
 use Rattle.cbf_pixels.specs.declared.ElementType.{ElementType}
 use Rattle.cbf_pixels.specs.declared.ElementType.TheVariants.{U8, S8, U16, S16, U32, S32}
-use Rattle.cbf_measure.specs.declared.measure.Size.TheVariants.{Outside, Octets}
+use Rattle.std.specs.Prelude.{None, Some}
 use Rattle.cbf_pixels.specs.Pixels.{within, all_within, pack_difference, pack_from, pack_byte_offset}
 use Rattle.cbf_measure.specs.Window.{SameWindow, WindowRun}
 use Rattle.cbf_measure.specs.Measure.{part, size_within, size_of, Typed}
 use Rattle.cbf_measure.proofs.PartsLaws.{last_of, part-add, part-one, last-append, last-at, pack-append}
-use Rattle.cbf_pixels.proofs.Integers.{never, subℕ-neg, cond-left, cond-right, between, least-small, greatest-small}
-use Rattle.cbf_pixels.proofs.Bounds.{from-bounds}
+use Rattle.cbf_pixels.proofs.Integers.{never, cond-left, cond-right, between, least-small, greatest-small}
 use Rattle.cbf_pixels.proofs.Forms.{form1, form-size}
 use Rattle.cbf_measure.proofs.WindowLaws.{window-near, window-sym, window-trans, window-within}
 use Rattle.cbf_pixels.specs.Pixels as P
-
--- ---- the two tests of a width, with h numbers on each side of 0
-
-negative : (h : ℕ) → pos 0 -ℤ pos (suc h) ≡ negsuc h
-negative h = subℕ-neg 0 (suc h) (omega arith) ∙ ap negsuc (omega arith)
-
-pub mag-negative : (h : ℕ) → mag (pos 0 -ℤ pos h) ≤ h
-mag-negative zero = omega arith
-mag-negative (suc h) = subst (λ (z : ℤ). mag z ≤ suc h) (sym (negative h)) (omega arith)
-
-low-test : (d : ℤ) (h : ℕ) (t : Bool) → le_z d (pos 0 -ℤ pos (suc h)) ≡ t → le_z d (negsuc h) ≡ t
-low-test d h t e = subst (λ (z : ℤ). le_z d z ≡ t) (negative h) e
-
-pub narrow-low : (d : ℤ) (h : ℕ) → le_z d (pos 0 -ℤ pos h) ≡ true → ltb (nat_abs d) h ≡ false
-narrow-low d zero e = le-ltb (nat_abs d) 0 (omega arith)
-narrow-low (pos n) (suc h) e = never (low-test (pos n) h true e)
-narrow-low (negsuc n) (suc h) e = let l = leb-true h n (low-test (negsuc n) h true e) in le-ltb (suc n) (suc h) (omega arith)
-
-pub narrow_high : (d : ℤ) (h : ℕ) → le_z d (pos 0 -ℤ pos h) ≡ false → lt_z d (pos h) ≡ ltb (nat_abs d) h
-narrow_high (pos n) h e = refl
-narrow_high (negsuc n) zero e = never (sym e)
-narrow_high (negsuc n) (suc h) e = let l = leb-false h n (low-test (negsuc n) h false e) in sym (lt-ltb (suc n) (suc h) (omega arith))
 
 -- ---- lists of pixels
 
@@ -50,28 +27,28 @@ within-append lo hi (x ∷ xs) ys = go (within lo hi x) (within-append lo hi xs 
     go true e = e
     go false e = refl
 
--- a size that is 0 says that a pixel is outside, and any other that none is
-size-zero : (lo hi z : ℤ) (xs : List ℤ) → 0 < length xs → size_within lo hi z xs ≡ 0 → all_within lo hi xs ≡ false
+-- a size says that no pixel is outside, and none that one is
+size-some : (lo hi z : ℤ) (xs : List ℤ) (n : ℕ) → Some n ≡ size_within lo hi z xs → (all_within lo hi xs ≡ true) × (n ≡ length (pack_from z xs))
 unfolding size_within
-size-zero lo hi z xs h e = go (all_within lo hi xs) e
+size-some lo hi z xs n e = go (all_within lo hi xs) e
   where
-    go : (t : Bool) → cond t (length (pack_from z xs)) 0 ≡ 0 → t ≡ false
-    go true q = let y : ⊥ = omega (arith, (from-bounds z xs).0) in absurd y
+    go : (t : Bool) → Some n ≡ cond t (Some (length (pack_from z xs))) None → (t ≡ true) × (n ≡ length (pack_from z xs))
+    go true q = let w : n ≡ length (pack_from z xs) = cc in (refl, w)
+    go false q = let w : ⊥ = cc in absurd w
+
+size-none : (lo hi z : ℤ) (xs : List ℤ) → None ≡ size_within lo hi z xs → all_within lo hi xs ≡ false
+unfolding size_within
+size-none lo hi z xs e = go (all_within lo hi xs) e
+  where
+    go : (t : Bool) → None ≡ cond t (Some (length (pack_from z xs))) None → t ≡ false
+    go true q = let w : ⊥ = cc in absurd w
     go false q = refl
 
-size-inside : (lo hi z : ℤ) (xs : List ℤ) → (size_within lo hi z xs ≡ 0 → ⊥) → all_within lo hi xs ≡ true
-unfolding size_within
-size-inside lo hi z xs h = go (all_within lo hi xs) h
-  where
-    go : (t : Bool) → (cond t (length (pack_from z xs)) 0 ≡ 0 → ⊥) → t ≡ true
-    go true q = refl
-    go false q = absurd (q refl)
-
-pub size_is : (lo hi z : ℤ) (xs : List ℤ) → all_within lo hi xs ≡ true → size_within lo hi z xs ≡ length (pack_from z xs)
+pub size_is : (lo hi z : ℤ) (xs : List ℤ) → all_within lo hi xs ≡ true → size_within lo hi z xs ≡ Some (length (pack_from z xs))
 unfolding size_within
 size_is lo hi z xs e = rw e
 
-size-outside : (lo hi z : ℤ) (xs : List ℤ) → all_within lo hi xs ≡ false → size_within lo hi z xs ≡ 0
+pub size-outside : (lo hi z : ℤ) (xs : List ℤ) → all_within lo hi xs ≡ false → size_within lo hi z xs ≡ None
 unfolding size_within
 size-outside lo hi z xs e = rw e
 
@@ -105,13 +82,13 @@ pub in_bounds : (lo hi z : ℤ) → lt_z z lo ≡ false → lt_z hi z ≡ false 
 unfolding within
 in_bounds lo hi z e f = rw (at_least z lo e, at_least hi z f)
 
-pub one_outside : (lo hi last z : ℤ) → within lo hi z ≡ false → size_within lo hi last (z ∷ []) ≡ 0
+pub one_outside : (lo hi last z : ℤ) → within lo hi z ≡ false → size_within lo hi last (z ∷ []) ≡ None
 unfolding all_within
 one_outside lo hi last z e = size-outside lo hi last (z ∷ []) (rw e)
 
-pub one_inside : (lo hi last z : ℤ) → within lo hi z ≡ true → size_within lo hi last (z ∷ []) ≡ length (pack_difference (z -ℤ last))
+pub one_inside : (lo hi last z : ℤ) → within lo hi z ≡ true → size_within lo hi last (z ∷ []) ≡ Some (length (pack_difference (z -ℤ last)))
 unfolding all_within pack_from
-one_inside lo hi last z e = size_is lo hi last (z ∷ []) (rw e) ∙ ap length (append-nil (pack_difference (z -ℤ last)))
+one_inside lo hi last z e = size_is lo hi last (z ∷ []) (rw e) ∙ ap (λ (l : List ℕ). Some (length l)) (append-nil (pack_difference (z -ℤ last)))
 
 -- ---- pixels of a type, measured
 
@@ -123,6 +100,17 @@ typed-range {lo} {hi} {z} T =
     (subst (λ (x : ℤ). mag x < 2 ^ 33) (sym T.greatest) (greatest-small T.type))
     (cond-left (le_z lo z) (le_z z hi) T.inside)
     (cond-right (le_z lo z) (le_z z hi) T.inside)
+
+-- the bounds, as the machine holds them
+pub held-least : {lo hi z : ℤ} → Typed lo hi z → to_z w64 (of_z w64 lo) ≡ lo
+held-least T =
+    let s = subst (λ (x : ℤ). mag x < 2 ^ 33) (sym T.least) (least-small T.type) in
+    to_z-of_z {w = w64} (record { sfits = omega arith })
+
+pub held-greatest : {lo hi z : ℤ} → Typed lo hi z → to_z w64 (of_z w64 hi) ≡ hi
+held-greatest T =
+    let s = subst (λ (x : ℤ). mag x < 2 ^ 33) (sym T.greatest) (greatest-small T.type) in
+    to_z-of_z {w = w64} (record { sfits = omega arith })
 
 pub typed-other : {lo hi z : ℤ} (y : ℤ) → Typed lo hi z → within lo hi y ≡ true → Typed lo hi y
 typed-other y T w = record { type = T.type; least = T.least; greatest = T.greatest; inside = w }
@@ -142,58 +130,67 @@ pub record Measured (ps : List ℤ) (lo hi : ℤ) (k n : ℕ) (last z : ℤ) (si
   pub ends : z ≡ last_of last (part ps k n)
   pub typed : Typed lo hi z
 
-measured-none : (ps : List ℤ) (lo hi : ℤ) (k : ℕ) (last : ℤ) → Typed lo hi last → Measured ps lo hi k 0 last last 0
+pub measured-none : (ps : List ℤ) (lo hi : ℤ) (k : ℕ) (last : ℤ) → Typed lo hi last → Measured ps lo hi k 0 last last 0
 unfolding all_within pack_from last_of
 measured-none ps lo hi k last T = record { inside = refl; takes = refl; ends = refl; typed = T }
 
-measured-size : {ps : List ℤ} {lo hi : ℤ} {k n : ℕ} {last z : ℤ} {size : ℕ} → Measured ps lo hi k n last z size → size ≡ size_within lo hi last (part ps k n)
-measured-size {ps} {lo} {hi} {k} {n} {last} M = M.takes ∙ sym (size_is lo hi last (part ps k n) M.inside)
+pub measured-size : {ps : List ℤ} {lo hi : ℤ} {k n : ℕ} {last z : ℤ} {size : ℕ} → Measured ps lo hi k n last z size → Some size ≡ size_within lo hi last (part ps k n)
+measured-size {ps} {lo} {hi} {k} {n} {last} M = ap Some M.takes ∙ sym (size_is lo hi last (part ps k n) M.inside)
 
 -- m more pixels, at least one, which take a octets
-module _ {ps : List ℤ} {lo hi : ℤ} {k n : ℕ} {last z : ℤ} {size : ℕ} (M : Measured ps lo hi k n last z size) (m a : ℕ)
-    (e : a ≡ size_within lo hi z (part ps (k + n) m)) (more : 0 < m) where
-  pub measured-more : (a ≡ 0 → ⊥) → (y : ℤ) (i : ℕ) → k + n + m ≡ i + 1 → i < length ps → y ≡ get_or ps i (pos 0) → Measured ps lo hi k (n + m) last y (size + a)
-  measured-more s y i u h w =
-      let xs = part ps k n in
-      let ys = part ps (k + n) m in
-      let b = size-inside lo hi z ys (λ q. s (e ∙ q)) in
-      let p = part-add ps k n m in
-      let end : (x : ℤ) → y ≡ last_of x ys = λ x. w ∙ sym (last-at x ps (k + n) m i (omega arith) (omega arith) (omega arith)) in
-      record {
-        inside = ap (all_within lo hi) p ∙ within-append lo hi xs ys ∙ ap (λ (t : Bool). cond t (all_within lo hi ys) false) M.inside ∙ b;
-        takes = ap₂ ◌+◌ M.takes (e ∙ size_is lo hi z ys b ∙ ap (λ (x : ℤ). length (pack_from x ys)) M.ends)
-            ∙ sym (length-append (pack_from last xs) (pack_from (last_of last xs) ys))
-            ∙ ap length (sym (pack-append last xs ys)) ∙ ap (λ (l : List ℤ). length (pack_from last l)) (sym p);
-        ends = end (last_of last xs) ∙ sym (last-append last xs ys) ∙ ap (last_of last) (sym p);
-        typed = subst (Typed lo hi) (sym (end z)) (typed-last lo hi z ys M.typed b);
-      }
+pub measured-more : {ps : List ℤ} {lo hi : ℤ} {k n : ℕ} {last z : ℤ} {size : ℕ} → Measured ps lo hi k n last z size → (m a : ℕ)
+    → Some a ≡ size_within lo hi z (part ps (k + n) m) → 0 < m → (y : ℤ) (i : ℕ) → k + n + m ≡ i + 1 → i < length ps → y ≡ get_or ps i (pos 0)
+    → Measured ps lo hi k (n + m) last y (size + a)
+measured-more {ps} {lo} {hi} {k} {n} {last} {z} {size} M m a e more y i u h w =
+    let xs = part ps k n in
+    let ys = part ps (k + n) m in
+    let b = size-some lo hi z ys a e in
+    let p = part-add ps k n m in
+    let end : (x : ℤ) → y ≡ last_of x ys = λ x. w ∙ sym (last-at x ps (k + n) m i (omega arith) (omega arith) (omega arith)) in
+    record {
+      inside = ap (all_within lo hi) p ∙ within-append lo hi xs ys ∙ ap (λ (t : Bool). cond t (all_within lo hi ys) false) M.inside ∙ b.0;
+      takes = ap₂ ◌+◌ M.takes (b.1 ∙ ap (λ (x : ℤ). length (pack_from x ys)) M.ends)
+          ∙ sym (length-append (pack_from last xs) (pack_from (last_of last xs) ys))
+          ∙ ap length (sym (pack-append last xs ys)) ∙ ap (λ (l : List ℤ). length (pack_from last l)) (sym p);
+      ends = end (last_of last xs) ∙ sym (last-append last xs ys) ∙ ap (last_of last) (sym p);
+      typed = subst (Typed lo hi) (sym (end z)) (typed-last lo hi z ys M.typed b.0);
+    }
 
-  pub outside-more : a ≡ 0 → (N : ℕ) → n + m ≤ N → k + N ≤ length ps → all_within lo hi (part ps k N) ≡ false
-  outside-more s N g h =
-      let r = N - (n + m) in
-      let v : n + m + r ≡ N = omega arith in
-      let xs = part ps k n in
-      let ys = part ps (k + n) m in
-      let zs = part ps (k + (n + m)) r in
-      let b = size-zero lo hi z ys (omega (arith, length-take-le m (drop (k + n) ps) (omega (arith, length-drop (k + n) ps)))) (sym e ∙ s) in
-      let p : part ps k N ≡ xs ++ (ys ++ zs)
-      = ap (part ps k) (sym v) ∙ part-add ps k (n + m) r ∙ ap (λ (l : List ℤ). l ++ zs) (part-add ps k n m) ∙ append_assoc xs ys zs in
-      ap (all_within lo hi) p ∙ within-append lo hi xs (ys ++ zs)
-      ∙ ap₂ (λ (s t : Bool). cond s t false) M.inside (within-append lo hi ys zs ∙ ap (λ (t : Bool). cond t (all_within lo hi zs) false) b)
+-- one of m more pixels is outside, and so one of all
+pub outside-more : {ps : List ℤ} {lo hi : ℤ} {k n : ℕ} {last z : ℤ} {size : ℕ} → Measured ps lo hi k n last z size → (m : ℕ)
+    → None ≡ size_within lo hi z (part ps (k + n) m) → (N : ℕ) → n + m ≤ N → k + N ≤ length ps → all_within lo hi (part ps k N) ≡ false
+outside-more {ps} {lo} {hi} {k} {n} {last} {z} M m e N g h =
+    let r = N - (n + m) in
+    let v : n + m + r ≡ N = omega arith in
+    let xs = part ps k n in
+    let ys = part ps (k + n) m in
+    let zs = part ps (k + (n + m)) r in
+    let b = size-none lo hi z ys e in
+    let p : part ps k N ≡ xs ++ (ys ++ zs)
+    = ap (part ps k) (sym v) ∙ part-add ps k (n + m) r ∙ ap (λ (l : List ℤ). l ++ zs) (part-add ps k n m) ∙ append_assoc xs ys zs in
+    ap (all_within lo hi) p ∙ within-append lo hi xs (ys ++ zs)
+    ∙ ap₂ (λ (s t : Bool). cond s t false) M.inside (within-append lo hi ys zs ∙ ap (λ (t : Bool). cond t (all_within lo hi zs) false) b)
 
--- one more, at i
-module _ {ps : List ℤ} {lo hi : ℤ} {k n : ℕ} {last z : ℤ} {size : ℕ} (M : Measured ps lo hi k n last z size) (i a : ℕ)
-    (y : ℤ) (u : k + n ≡ i) (h : i < length ps) (w : y ≡ get_or ps i (pos 0))
-    (e : a ≡ size_within lo hi z (y ∷ [])) where
-  single : a ≡ size_within lo hi z (part ps (k + n) 1)
-  single = e ∙ ap (λ (x : ℤ). size_within lo hi z (x ∷ [])) w ∙ ap (size_within lo hi z) (sym (part-one ps i h))
-      ∙ ap (λ (j : ℕ). size_within lo hi z (part ps j 1)) (sym u)
+-- one more of a list of pixels, the next one
+single : (ps : List ℤ) (n : ℕ) (y lo hi z : ℤ) → n < length ps → y ≡ get_or ps n (pos 0) → size_within lo hi z (y ∷ []) ≡ size_within lo hi z (part ps (0 + n) 1)
+single ps n y lo hi z h w =
+    let u : n ≡ 0 + n = omega arith in
+    ap (λ (x : ℤ). size_within lo hi z (x ∷ [])) w ∙ ap (size_within lo hi z) (sym (part-one ps n h)) ∙ ap (λ (j : ℕ). size_within lo hi z (part ps j 1)) u
 
-  pub one_more_lem : (a ≡ 0 → ⊥) → Measured ps lo hi k (n + 1) last y (size + a)
-  one_more_lem s = measured-more M 1 a single (omega arith) s y i (omega arith) h w
+pub one_more : {ps : List ℤ} {lo hi : ℤ} {n : ℕ} {last z : ℤ} {size : ℕ} → Measured ps lo hi 0 n last z size → (a : ℕ) (y : ℤ) → n < length ps
+    → y ≡ get_or ps n (pos 0) → Some a ≡ size_within lo hi z (y ∷ []) → Measured ps lo hi 0 (n + 1) last y (size + a)
+one_more {ps} {lo} {hi} {n} {last} {z} M a y h w e =
+    measured-more M 1 a (e ∙ single ps n y lo hi z h w) (omega arith) y n (omega arith) h w
 
-  pub one_out : a ≡ 0 → (N : ℕ) → n + 1 ≤ N → k + N ≤ length ps → all_within lo hi (part ps k N) ≡ false
-  one_out s N = outside-more M 1 a single (omega arith) s N
+pub one_out : {ps : List ℤ} {lo hi : ℤ} {n : ℕ} {last z : ℤ} {size : ℕ} → Measured ps lo hi 0 n last z size → (y : ℤ) → n < length ps
+    → y ≡ get_or ps n (pos 0) → None ≡ size_within lo hi z (y ∷ []) → None ≡ size_within lo hi last ps
+one_out {ps} {lo} {hi} {n} {last} {z} M y h w e =
+    let o = outside-more M 1 (e ∙ single ps n y lo hi z h w) (length ps) (omega arith) (omega arith) in
+    sym (ap (size_within lo hi last) (sym (take-length ps)) ∙ size-outside lo hi last (part ps 0 (length ps)) o)
+
+pub measured_all : {ps : List ℤ} {lo hi : ℤ} {n : ℕ} {last z : ℤ} {size : ℕ} → Measured ps lo hi 0 n last z size → n ≡ length ps
+    → Some size ≡ size_within lo hi last ps
+measured_all {ps} {lo} {hi} {n} {last} M e = measured-size M ∙ ap (size_within lo hi last) (ap (λ (j : ℕ). part ps 0 j) e ∙ take-length ps)
 
 -- ---- pixels of one window: each takes one octet
 
@@ -221,37 +218,36 @@ run-size lo hi ps (suc n) k last z T w s h =
       ap (λ (l : List ℤ). length (pack_from z l)) p ∙ length-append (pack_difference (y -ℤ z)) (pack_from y (part ps (suc k) n)) ∙ ap₂ ◌+◌ d i.1 ∙ omega arith,
     )
 
-pub window-size : {lo hi : ℤ} {ps : List ℤ} {k : ℕ} {last : ℤ} {n : ℕ} → Typed lo hi last → WindowRun ps k last n → n ≡ size_within lo hi last (part ps k n)
+pub window-size : {lo hi : ℤ} {ps : List ℤ} {k : ℕ} {last : ℤ} {n : ℕ} → Typed lo hi last → WindowRun ps k last n → Some n ≡ size_within lo hi last (part ps k n)
 unfolding SameWindow
 window-size {lo} {hi} {ps} {k} {last} {n} T R =
     let i = run-size lo hi ps n k last last T refl R.same R.inside in
-    sym (size_is lo hi last (part ps k n) i.0 ∙ i.1)
+    sym (size_is lo hi last (part ps k n) i.0 ∙ ap Some i.1)
 
 -- ---- all pixels, in parts
 
 -- the next part: n pixels from k on, after z, whose octets are added to total
 pub record Added (ps : List ℤ) (lo hi : ℤ) (k n : ℕ) (z : ℤ) (total total' : ℕ) : Type 0 where
   pub size : ℕ
-  pub takes : size ≡ size_within lo hi z (part ps k n)
-  pub inside : size ≡ 0 → ⊥
+  pub takes : Some size ≡ size_within lo hi z (part ps k n)
   pub sum : total' ≡ total + size
   pub some : 0 < n
   pub reach : k + n ≤ length ps
   pub few : size ≤ 15 * n
 
 module _ {ps : List ℤ} {lo hi : ℤ} {k : ℕ} {z : ℤ} {total : ℕ} (M : Measured ps lo hi 0 k (pos 0) z total) where
-  first : (n a : ℕ) → a ≡ size_within lo hi z (part ps k n) → a ≡ size_within lo hi z (part ps (0 + k) n)
-  first n a e = let q : k ≡ 0 + k = omega arith in e ∙ ap (λ (j : ℕ). size_within lo hi z (part ps j n)) q
+  first : (n : ℕ) → size_within lo hi z (part ps k n) ≡ size_within lo hi z (part ps (0 + k) n)
+  first n = let q : k ≡ 0 + k = omega arith in ap (λ (j : ℕ). size_within lo hi z (part ps j n)) q
 
   pub added_more : {n total' : ℕ} → Added ps lo hi k n z total total' → (i : ℕ) → k + n ≡ i + 1 → (y : ℤ) → y
       ≡ get_or ps i (pos 0) → Measured ps lo hi 0 (k + n) (pos 0) y total'
   added_more {n} A i u y w =
       let h = A.reach in
       subst (Measured ps lo hi 0 (k + n) (pos 0) y) (sym A.sum)
-      (measured-more M n A.size (first n A.size A.takes) A.some A.inside y i (omega arith) (omega arith) w)
+      (measured-more M n A.size (A.takes ∙ first n) A.some y i (omega arith) (omega arith) w)
 
-  pub added_out : (n a : ℕ) → a ≡ size_within lo hi z (part ps k n) → a ≡ 0 → 0 < n → k + n ≤ length ps → all_within lo hi (part ps 0 (length ps)) ≡ false
-  added_out n a e q s h = outside-more M n a (first n a e) s q (length ps) h (omega arith)
+  pub added_out : (n : ℕ) → None ≡ size_within lo hi z (part ps k n) → k + n ≤ length ps → all_within lo hi (part ps 0 (length ps)) ≡ false
+  added_out n e h = outside-more M n (e ∙ first n) (length ps) h (omega arith)
 
 typed-zero : (t : ElementType) → Typed (P.least t) (P.greatest t) (pos 0)
 unfolding within
@@ -265,53 +261,25 @@ typed-zero t = record { type = t; least = refl; greatest = refl; inside = go t }
     go U32 = refl
     go S32 = refl
 
--- ---- the same, with the bounds and the last pixel as the machine holds them: in words of 64 bits
+-- the bounds that were computed for the type t
+module _ (t : ElementType) {lo hi : ℤ} (l : lo ≡ P.least t) (g : hi ≡ P.greatest t) where
+  pub bounds-typed : Typed lo hi (pos 0)
+  bounds-typed = rw (l, g) (typed-zero t)
 
-abbrev pub held : ℤ → ℤ
-held z = to_z w64 (of_z w64 z)
+  module _ (ps : List ℤ) where
+    pub all_none : Measured ps lo hi 0 0 (pos 0) (pos 0) 0
+    all_none = measured-none ps lo hi 0 (pos 0) bounds-typed
 
-small-held : {r : ℤ} (z : ℤ) → mag z < 2 ^ 33 → r ≡ z → held r ≡ z
-small-held z h e = ap held e ∙ to_z-of_z {w = w64} (record { sfits = omega arith })
+    within_all : (n : ℕ) (b : Bool) → n ≡ length ps → all_within lo hi (part ps 0 n) ≡ b → all_within (P.least t) (P.greatest t) ps ≡ b
+    within_all n b e h =
+        ap₂ (λ (x y : ℤ). all_within x y ps) (sym l) (sym g) ∙ ap (all_within lo hi) (sym (take-length ps) ∙ ap (λ (j : ℕ). take j ps) (sym e)) ∙ h
 
-module _ {lo hi last : ℤ} (f : SFits w64 lo) (g : SFits w64 hi) (h : SFits w64 last) where
-  as-held : (X : ℤ → ℤ → ℤ → Type 0) → X lo hi last → X (held lo) (held hi) (held last)
-  as-held X x = rw (to_z-of_z {w = w64} f, to_z-of_z {w = w64} g, to_z-of_z {w = w64} h) x
+    pub all-inside : {n : ℕ} {z : ℤ} {size : ℕ} → Measured ps lo hi 0 n (pos 0) z size → n ≡ length ps → Some size ≡ size_of t ps
+    unfolding size_of pack_byte_offset
+    all-inside {n} M e =
+        rw (within_all n true e M.inside)
+        (ap Some (M.takes ∙ ap (λ (l : List ℤ). length (pack_from (pos 0) l)) (ap (λ (j : ℕ). take j ps) e ∙ take-length ps)))
 
-  pub held-is : {a : ℕ} (xs : List ℤ) → a ≡ size_within (held lo) (held hi) (held last) xs → a ≡ size_within lo hi last xs
-  held-is xs e = e ∙ as-held (λ (l u z : ℤ). size_within l u z xs ≡ size_within lo hi last xs) refl
-
-  pub held_none : (ps : List ℤ) (k : ℕ) → Typed lo hi last → Measured ps (held lo) (held hi) k 0 (held last) (held last) 0
-  held_none ps k T = as-held (λ (l u z : ℤ). Measured ps l u k 0 z z 0) (measured-none ps lo hi k last T)
-
-  pub held-size : {ps : List ℤ} {k n : ℕ} {z : ℤ} {size : ℕ} → Measured ps (held lo) (held hi) k n (held last) z size
-      → size ≡ size_within lo hi last (part ps k n)
-  held-size {ps} {k} {n} M = held-is (part ps k n) (measured-size M)
-
-  pub held-outside : (xs : List ℤ) → all_within (held lo) (held hi) xs ≡ false → 0 ≡ size_within lo hi last xs
-  held-outside xs e = held-is xs (sym (size-outside (held lo) (held hi) (held last) xs e))
-
--- the bounds of the type t, as they were computed
-module _ (t : ElementType) {r s : ℤ} (l : r ≡ P.least t) (g : s ≡ P.greatest t) (ps : List ℤ) where
-  least-held : held r ≡ P.least t
-  least-held = small-held (P.least t) (least-small t) l
-
-  greatest-held : held s ≡ P.greatest t
-  greatest-held = small-held (P.greatest t) (greatest-small t) g
-
-  pub all_none : Measured ps (held r) (held s) 0 0 (pos 0) (pos 0) 0
-  all_none = rw (least-held, greatest-held) (measured-none ps (P.least t) (P.greatest t) 0 (pos 0) (typed-zero t))
-
-  within_all : (n : ℕ) (b : Bool) → n ≡ length ps → all_within (held r) (held s) (part ps 0 n) ≡ b → all_within (P.least t) (P.greatest t) ps ≡ b
-  within_all n b e h =
-      ap₂ (λ (x y : ℤ). all_within x y ps) (sym least-held) (sym greatest-held)
-      ∙ ap (all_within (held r) (held s)) (sym (take-length ps) ∙ ap (λ (j : ℕ). take j ps) (sym e)) ∙ h
-
-  pub all-inside : {n : ℕ} {z : ℤ} {size : ℕ} → Measured ps (held r) (held s) 0 n (pos 0) z size → n ≡ length ps → Octets size ≡ size_of t ps
-  unfolding size_of pack_byte_offset
-  all-inside {n} M e =
-      rw (within_all n true e M.inside)
-      (ap Octets (M.takes ∙ ap (λ (l : List ℤ). length (pack_from (pos 0) l)) (ap (λ (j : ℕ). take j ps) e ∙ take-length ps)))
-
-  pub all-outside : all_within (held r) (held s) (part ps 0 (length ps)) ≡ false → Outside ≡ size_of t ps
-  unfolding size_of
-  all-outside e = rw (within_all (length ps) false refl e)
+    pub all-outside : all_within lo hi (part ps 0 (length ps)) ≡ false → None ≡ size_of t ps
+    unfolding size_of
+    all-outside e = rw (within_all (length ps) false refl e)

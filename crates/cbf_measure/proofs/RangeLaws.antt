@@ -1,9 +1,11 @@
 -- Ranges from 0, or from -1 - limit, to limit: what the or of pixels says of them, that a type's range is one, and
 -- the octets of pixels as words. Assumes nothing.
-use Rattle.std.proofs.Common.{◌≡◌, ℕ, zero, suc, ◌+◌, ◌-◌, ◌*◌, ◌%◌, ◌^◌, ◌<◌, ◌≤◌, Bool, true, false, cond, ltb, leb, List, ◌∷◌, length, get_or, take, set, ℤ, pos, negsuc, ◌+ℤ◌, ◌-ℤ◌, neg_ℤ, nat_abs, sym, refl, ap, ◌∙◌, subst, ap₂, add-one, arith, length-append, length-set, drop-cons, get_or-set_other, get_or-set_same, to_z-of_z, w32, to_z, of_z, below_more, ltb-false, ltb-true, le-ltb, lt-ltb, le-leb, leb-true}
+use Rattle.std.specs.Prelude.{Some}
+use Rattle.std.proofs.Common.{◌≡◌, ℕ, zero, suc, ◌+◌, ◌-◌, ◌*◌, ◌%◌, ◌^◌, ◌<◌, ◌≤◌, Bool, true, false, cond, ltb, leb, List, ◌∷◌, length, get_or, take, drop, set, ℤ, pos, negsuc, ◌-ℤ◌, nat_abs, sym, refl, ap, ◌∙◌, subst, ap₂, add-one, arith, length-append, length-set, drop-cons, get_or-set_other, get_or-set_same, to_z-of_z, w32, w64, to_z, of_z, below_more, ltb-false, ltb-true, lt-ltb, le-leb, leb-true}
+use Rattle.std.proofs.lemmas.List.{get_or-take, get_or-drop}
 use lib.Bits.{bit_or}
 use lib.Seq.{take-length}
-use lib.IntN.{sub_ℕ, neg_ℤ-neg_ℤ, neg_ℤ-+ℤ, +ℤ_comm}
+use lib.IntN.{sub_ℕ}
 use lib.Signed.{mag, le_z, lt_z}
 use Rattle.cbf_pixels.specs.declared.ElementType.{ElementType}
 use Rattle.cbf_pixels.specs.declared.ElementType.TheVariants.{U8, S8, U16, S16, U32, S32}
@@ -12,12 +14,11 @@ use Rattle.cbf_pixels.specs.Pixels.{least, greatest, within, all_within, pack_di
 use Rattle.cbf_measure.specs.Range.{lowest, raised_by, EachWithin, Gathered, SameSteps}
 use Rattle.cbf_measure.specs.Measure.{steps_size, far_steps, over, part, size_within, Typed}
 use Rattle.cbf_measure.proofs.PartsLaws.{last_of, last-at, pack-add, pack_one}
-use Rattle.cbf_pixels.proofs.Integers.{never, mag-subℕ, cond-left, cond-right, subℕ-pos, subℕ-neg, subℕ-eq}
-use Rattle.cbf_pixels.proofs.Numbers.{abs-le}
+use Rattle.cbf_pixels.proofs.Integers.{never, cond-left, cond-right, subℕ-pos, subℕ-neg, subℕ-eq}
 use Rattle.cbf_pixels.proofs.Bitwise.{or_left, or_right}
 use Rattle.cbf_measure.proofs.WindowLaws.{or-more}
 use Rattle.cbf_pixels.proofs.Forms.{form1, form2, form4, form8, form-size}
-use Rattle.cbf_measure.proofs.MeasureLaws.{size_is}
+use Rattle.cbf_measure.proofs.MeasureLaws.{size_is, held-least, held-greatest}
 
 pub within_signed : (z : ℤ) (limit : ℕ) → limit < 2 ^ 62 → ((bits 8 z + (limit + 1)) % 2 ^ 64 ≤ limit + (limit + 1)) × (mag z < 2 ^ 63)
     → within (negsuc limit) (pos limit) z ≡ true
@@ -29,6 +30,12 @@ pub within-unsigned : (z : ℤ) (limit : ℕ) → limit < 2 ^ 62 → ((bits 8 z 
 unfolding within bits
 within-unsigned (pos n) limit l h = let g : n ≤ limit = omega arith in rw (le-leb 0 n (omega arith)) (le-leb n limit g)
 within-unsigned (negsuc n) limit l h = let y : ⊥ = omega arith in absurd y
+
+-- a number's bits
+pub bits-far : (z : ℤ) → of_z w64 z ≡ bits 8 z
+unfolding bits
+bits-far (pos n) = refl
+bits-far (negsuc n) = refl
 
 -- ---- differences
 
@@ -65,14 +72,6 @@ step-length d = go (ltb (nat_abs d) 128) refl (ltb (nat_abs d) 32768) refl (ltb 
     go false p false q false r =
         let f = form-size (form8 d (ltb-false (nat_abs d) 2147483648 r)) in
         omega (arith, f, over_yes d 128 p, over_yes d 32768 q, over_yes d 2147483648 r)
-
-pub near_sub : (x y : ℤ) {H : ℕ} → 1 < H → mag x < H → mag y < H → nat_abs (x -ℤ y) < H + H
-near_sub (pos a) (pos zero) g h k = omega arith
-near_sub (pos a) (pos (suc b)) {H} g h k = omega (arith, abs-le (sub_ℕ a (suc b)) (mag-subℕ a (suc b) H h (omega arith)))
-near_sub (pos a) (negsuc b) g h k = omega arith
-near_sub (negsuc a) (pos zero) {H} g h k = omega (arith, abs-le (sub_ℕ 0 (suc a)) (mag-subℕ 0 (suc a) H (omega arith) h))
-near_sub (negsuc a) (pos (suc b)) g h k = omega arith
-near_sub (negsuc a) (negsuc b) {H} g h k = omega (arith, abs-le (sub_ℕ (suc b) (suc a)) (mag-subℕ (suc b) (suc a) (suc H) (omega arith) (omega arith)))
 
 last-from : (ps : List ℤ) (i j : ℕ) → i + j < length ps → last_of (get_or ps i (pos 0)) (part ps (i + 1) j) ≡ get_or ps (i + j) (pos 0)
 unfolding last_of
@@ -187,44 +186,6 @@ held-32 z h = to_z-of_z {w = w32} (record { sfits = h })
 pub word_held : (n : ℕ) {w : ℤ} → w ≡ sub_ℕ (n % 2 ^ 32) 2147483648 → to_z w32 (of_z w32 w) ≡ sub_ℕ (n % 2 ^ 32) 2147483648
 word_held n e = ap (λ (z : ℤ). to_z w32 (of_z w32 z)) e ∙ held-32 (sub_ℕ (n % 2 ^ 32) 2147483648) (word_small (n % 2 ^ 32) (omega arith))
 
--- a number that is not below another, and how far it is above
-pub not-below : (y z : ℤ) → lt_z y z ≡ false → y -ℤ z ≡ pos (nat_abs (y -ℤ z))
-not-below y z e = own (go y z e)
-  where
-    own : {w : ℤ} → (n : ℕ) × (w ≡ pos n) → w ≡ pos (nat_abs w)
-    own r = r.1 ∙ ap pos (sym (ap nat_abs r.1))
-
-    go : (y z : ℤ) → lt_z y z ≡ false → (n : ℕ) × (y -ℤ z ≡ pos n)
-    go (pos a) (pos b) e = (a - b, sub-pos a b ∙ subℕ-pos a b (ltb-false a b e))
-    go (pos a) (negsuc b) e = (a + suc b, refl)
-    go (negsuc a) (pos b) e = never (sym e)
-    go (negsuc a) (negsuc b) e = let l = ltb-false b a e in (suc b - suc a, subℕ-pos (suc b) (suc a) (omega arith))
-
-pub below-not : (y z : ℤ) → lt_z y z ≡ true → lt_z z y ≡ false
-below-not (pos a) (pos b) e = le-ltb b a (omega (arith, ltb-true a b e))
-below-not (pos a) (negsuc b) e = never e
-below-not (negsuc a) (pos b) e = refl
-below-not (negsuc a) (negsuc b) e = le-ltb a b (omega (arith, ltb-true b a e))
-
-abs_neg : (x : ℤ) → nat_abs (neg_ℤ x) ≡ nat_abs x
-abs_neg (pos zero) = refl
-abs_neg (pos (suc n)) = refl
-abs_neg (negsuc n) = refl
-
-pub apart-sym : (y z : ℤ) → nat_abs (z -ℤ y) ≡ nat_abs (y -ℤ z)
-apart-sym y z =
-    let e : neg_ℤ (y -ℤ z) ≡ z -ℤ y = neg_ℤ-+ℤ y (neg_ℤ z) ∙ ap (λ (w : ℤ). neg_ℤ y +ℤ w) (neg_ℤ-neg_ℤ z) ∙ +ℤ_comm (neg_ℤ y) z in
-    ap nat_abs (sym e) ∙ abs_neg (y -ℤ z)
-
-pub gathered_none : (ps : List ℤ) (k below : ℕ) (words : List ℤ) → length words ≡ 129 → Gathered ps k 0 below words 0
-gathered_none ps k below words l =
-    record {
-      most = λ j h. let y : ⊥ = omega arith in absurd y;
-      fits = λ j h. let y : ⊥ = omega arith in absurd y;
-      word = λ j h. let y : ⊥ = omega arith in absurd y;
-      long = l;
-    }
-
 -- the place of pixel i
 abbrev place_of : List ℤ → ℕ → ℕ → ℕ
 place_of ps below i = (bits 8 (get_or ps i (pos 0)) + below) % 2 ^ 64
@@ -271,6 +232,31 @@ placed false limit (pos n) l f h =
     let r : m % 2 ^ 32 ≡ n + 0 = omega arith in
     (within-unsigned (pos n) limit (omega arith) (omega arith, f), pos-from n (m % 2 ^ 32) 0 r)
 placed false limit (negsuc n) l f h = let y : ⊥ = omega arith in absurd y
+
+-- one more pixel, whose place is p
+pub spread-more : (ps : List ℤ) (below n all : ℕ) → ((j : ℕ) → j < n → (place_of ps below j ≤ all) × (mag (get_or ps j (pos 0)) < 2 ^ 63))
+    → (p : ℕ) → mag (get_or ps n (pos 0)) < 2 ^ 63 → p ≡ place_of ps below n
+    → (j : ℕ) → j < n + 1 → (place_of ps below j ≤ bit_or all p) × (mag (get_or ps j (pos 0)) < 2 ^ 63)
+spread-more ps below n all f p g e j h = (
+  subst (λ (x : ℕ). place_of ps below j ≤ bit_or all x) (sym e) (or-more (λ (i : ℕ). place_of ps below i) n all (λ i l. (f i l).0) j h),
+  below_more (λ (i : ℕ). mag (get_or ps i (pos 0)) < 2 ^ 63) n (λ i l. (f i l).1) g j h,
+)
+
+pub spread-within : (signed : Bool) (limit below all : ℕ) (ps : List ℤ) → limit < 2 ^ 62 → below ≡ raised_by signed limit → all ≤ limit + below
+    → ((j : ℕ) → j < length ps → (place_of ps below j ≤ all) × (mag (get_or ps j (pos 0)) < 2 ^ 63))
+    → EachWithin ps 0 (length ps) (lowest signed limit) (pos limit)
+spread-within signed limit below all ps l e m f j h =
+    let q : j ≡ 0 + j = omega arith in
+    let own : (b : Bool) → below ≡ raised_by b limit → within (lowest b limit) (pos limit) (get_or ps j (pos 0)) ≡ true = λ b. go b in
+    subst (λ (i : ℕ). within (lowest signed limit) (pos limit) (get_or ps i (pos 0)) ≡ true) q (own signed e)
+  where
+    go : (b : Bool) → below ≡ raised_by b limit → within (lowest b limit) (pos limit) (get_or ps j (pos 0)) ≡ true
+    go true e =
+        let p = subst (λ (b : ℕ). place_of ps b j ≤ limit + b) e (omega (arith, (f j h).0)) in
+        within_signed (get_or ps j (pos 0)) limit l (p, (f j h).1)
+    go false e =
+        let p = subst (λ (b : ℕ). place_of ps b j ≤ limit + b) e (omega (arith, (f j h).0)) in
+        within-unsigned (get_or ps j (pos 0)) limit l (omega arith, (f j h).1)
 
 module _ {ps : List ℤ} {k : ℕ} (signed : Bool) (limit below : ℕ) {words : List ℤ} {all : ℕ} (G : Gathered ps k 129 below words all)
     (e : below ≡ raised_by signed limit) (small : limit + raised_by signed limit < 2 ^ 32) (most : all ≤ limit + below) where
@@ -344,6 +330,11 @@ pub typed-wider : {lo hi z : ℤ} → Typed lo hi z → (limit : ℕ) (y : ℤ) 
     → (within lo hi y ≡ true) × (mag y ≤ limit)
 typed-wider T limit y h w = wider (typed-range-is T) limit y h w
 
+-- a pixel of the m pixels from k on
+slice_at : (ps : List ℤ) (k m i j : ℕ) → i ≡ j → j < m → get_or (take m (drop k ps)) i (pos 0) ≡ get_or ps (k + j) (pos 0)
+slice_at ps k m i j e h =
+    ap (λ (i : ℕ). get_or (take m (drop k ps)) i (pos 0)) e ∙ get_or-take m (drop k ps) j (pos 0) h ∙ get_or-drop k ps j (pos 0)
+
 -- each pixel of a part, and all of them
 pub each_all : (lo hi : ℤ) (ps : List ℤ) (k n : ℕ) → k + n ≤ length ps → EachWithin ps k n lo hi → all_within lo hi (part ps k n) ≡ true
 unfolding all_within
@@ -356,30 +347,47 @@ each_all lo hi ps k (suc n) h each =
     ∙ ap (λ (t : Bool). cond t (all_within lo hi (part ps (suc k) n)) false) (at (k + 0) k (omega arith) (each 0 (omega arith)))
     ∙ each_all lo hi ps (suc k) n (omega arith) (λ j l. at (k + suc j) (suc k + j) (omega arith) (each (suc j) (omega arith)))
 
+-- of the m pixels from k on
+pub each-slice : (ps : List ℤ) (k m n : ℕ) (lo hi : ℤ) → n ≤ m → EachWithin (take m (drop k ps)) 0 n lo hi → EachWithin ps k n lo hi
+each-slice ps k m n lo hi h each j l =
+    subst (λ (y : ℤ). within lo hi y ≡ true) (slice_at ps k m (0 + j) j (omega arith) (omega arith)) (each j l)
+
+pub steps-slice : (ps : List ℤ) (k m n : ℕ) (words : List ℤ) → n < m → SameSteps (take m (drop k ps)) 0 n words → SameSteps ps k n words
+steps-slice ps k m n words h same j l =
+    let z : k + (j + 1) ≡ k + j + 1 = omega arith in
+    same j l
+    ∙ ap₂ ◌-ℤ◌ (slice_at ps k m (0 + j + 1) (j + 1) (omega arith) (omega arith) ∙ ap (λ (i : ℕ). get_or ps i (pos 0)) z)
+    (slice_at ps k m (0 + j) j (omega arith) (omega arith))
+
 -- the size of a part after pixel k - 1, which is the last one
 part-steps : (lo hi : ℤ) (ps : List ℤ) (k n : ℕ) (last : ℤ) (size : ℕ) → 0 < k → k + n ≤ length ps → last ≡ get_or ps (k - 1) (pos 0)
-    → EachWithin ps (k - 1) (n + 1) lo hi → size ≡ steps_size ps (k - 1) n → size ≡ size_within lo hi last (part ps k n)
+    → EachWithin ps (k - 1) (n + 1) lo hi → size ≡ steps_size ps (k - 1) n → Some size ≡ size_within lo hi last (part ps k n)
 part-steps lo hi ps k n last size p h l each e =
     let q : k - 1 + 1 ≡ k = omega arith in
     let a = each_all lo hi ps k n h
     (λ j g. let r : k - 1 + (j + 1) ≡ k + j = omega arith in subst (λ (i : ℕ). within lo hi (get_or ps i (pos 0)) ≡ true) r (each (j + 1) (omega arith))) in
-    e ∙ ap₂ (λ (z : ℤ) (i : ℕ). length (pack_from z (part ps i n))) (sym l) q ∙ sym (size_is lo hi last (part ps k n) a)
+    ap Some (e ∙ ap₂ (λ (z : ℤ) (i : ℕ). length (pack_from z (part ps i n))) (sym l) q) ∙ sym (size_is lo hi last (part ps k n) a)
 
 -- the same by words
 pub part-words : (lo hi : ℤ) (ps : List ℤ) (k n : ℕ) (last : ℤ) (size : ℕ) (words : List ℤ) → 0 < k → n ≡ 128 → k + n ≤ length ps
     → last ≡ get_or ps (k - 1) (pos 0) → length words ≡ 129
-    → EachWithin ps (k - 1) 129 lo hi × SameSteps ps (k - 1) 128 words → size ≡ steps_size words 0 128 → size ≡ size_within lo hi last (part ps k n)
+    → EachWithin ps (k - 1) 129 lo hi × SameSteps ps (k - 1) 128 words → size ≡ steps_size words 0 128 → Some size ≡ size_within lo hi last (part ps k n)
 part-words lo hi ps k n last size words p q h l w both e =
-    subst (λ (m : ℕ). size ≡ size_within lo hi last (part ps k m)) (sym q)
+    subst (λ (m : ℕ). Some size ≡ size_within lo hi last (part ps k m)) (sym q)
     (part-steps lo hi ps k 128 last size p (omega arith) l both.0 (e ∙ steps-same ps (k - 1) 128 words (omega arith) (omega arith) both.1))
 
+-- the range of a type by its bounds, as the machine holds them
+pub held-within : {lo hi z : ℤ} → Typed lo hi z → (ps : List ℤ) (k n : ℕ)
+    → EachWithin ps k n (lowest (lt_z (to_z w64 (of_z w64 lo)) (pos 0)) (nat_abs (to_z w64 (of_z w64 hi)))) (pos (nat_abs (to_z w64 (of_z w64 hi))))
+    → EachWithin ps k n lo hi
+held-within {lo} {hi} T ps k n each j h =
+    let y = get_or ps (k + j) (pos 0) in
+    let e : within (lowest (lt_z lo (pos 0)) (nat_abs hi)) (pos (nat_abs hi)) y ≡ true
+    = subst (λ (u : ℤ). within (lowest (lt_z lo (pos 0)) (nat_abs u)) (pos (nat_abs u)) y ≡ true) (held-greatest T)
+    (subst (λ (l : ℤ). within (lowest (lt_z l (pos 0)) (nat_abs (to_z w64 (of_z w64 hi)))) (pos (nat_abs (to_z w64 (of_z w64 hi)))) y ≡ true) (held-least T)
+    (each j h)) in
+    (typed-wider T (nat_abs hi) y (typed-limit T).own e).0
+
 -- all pixels of a type
-pub all-within : (t : ElementType) (lo : ℤ) (top : ℕ) (ps : List ℤ) → lo ≡ least t → pos top ≡ greatest t
-    → EachWithin ps 0 (length ps) (lowest (lt_z lo (pos 0)) top) (pos top)
-    → all_within (least t) (greatest t) ps ≡ true
-all-within t lo top ps l g each =
-    let h : le_z (pos top) (greatest t) ≡ true = subst (λ (z : ℤ). le_z (pos top) z ≡ true) g (le-leb top top (omega arith)) in
-    let each' : EachWithin ps 0 (length ps) (least t) (greatest t) = λ j i.
-    (wider (range-is t) top (get_or ps (0 + j) (pos 0)) h (subst (λ (z : ℤ). within (lowest (lt_z z (pos 0)) top) (pos top) (get_or ps (0 + j) (pos 0)) ≡
-    true) l (each j i))).0 in
-    ap (all_within (least t) (greatest t)) (sym (take-length ps)) ∙ each_all (least t) (greatest t) ps 0 (length ps) (omega arith) each'
+pub all-each : (lo hi : ℤ) (ps : List ℤ) → EachWithin ps 0 (length ps) lo hi → all_within lo hi ps ≡ true
+all-each lo hi ps each = ap (all_within lo hi) (sym (take-length ps)) ∙ each_all lo hi ps 0 (length ps) (omega arith) each

@@ -1,16 +1,16 @@
 -- Windows of 128 numbers, from a multiple of 128 on: pixels of one window are near each other, and no type's range ends
 -- between them. Assumes nothing.
-use Rattle.std.proofs.Common.{◌≡◌, ℕ, zero, suc, ◌+◌, ◌-◌, ◌*◌, ◌/◌, ◌^◌, ◌<◌, ◌≤◌, Bool, true, false, cond, ltb, List, length, get_or, ℤ, pos, negsuc, ◌-ℤ◌, nat_abs, sym, refl, ap, ◌∙◌, subst, arith, w64, to_z, of_z, below_more, ltb-false, ltb-true, le-leb, leb-true}
+use Rattle.std.proofs.Common.{◌≡◌, ℕ, zero, suc, ◌+◌, ◌-◌, ◌*◌, ◌/◌, ◌^◌, ◌<◌, ◌≤◌, Bool, true, false, cond, ltb, List, length, take, drop, get_or, ℤ, pos, negsuc, ◌-ℤ◌, nat_abs, sym, refl, ap, ◌∙◌, subst, arith, w64, of_z, below_more, ltb-false, ltb-true, le-leb, leb-true}
+use Rattle.std.proofs.lemmas.List.{get_or-take, get_or-drop, length-take-le, length-drop}
 use lib.Bits.{bit_xor, bit_or, xor_shr, xor_add_and, and_le_l, and_le_r}
 use lib.IntN.{sub_ℕ, pos-ne-negsuc}
-use lib.Signed.{mag, le_z, lt_z}
-use mir.Val.{sel}
+use lib.Signed.{mag, le_z}
 use Rattle.cbf_pixels.specs.Pixels.{least, greatest, within}
 use Rattle.cbf_measure.specs.Window.{SameWindow, WindowRun}
 use Rattle.cbf_pixels.specs.declared.ElementType.{ElementType}
 use Rattle.cbf_pixels.specs.declared.ElementType.TheVariants.{U8, S8, U16, S16, U32, S32}
 use Rattle.cbf_pixels.proofs.Bitwise.{or_left, or_right}
-use Rattle.cbf_pixels.proofs.Integers.{never, cond-left, cond-right}
+use Rattle.cbf_pixels.proofs.Integers.{cond-left, cond-right}
 
 -- ---- bitwise tests
 
@@ -21,14 +21,6 @@ pub xor-window : (a b : ℕ) → bit_xor a b < 128 → a / 128 ≡ b / 128
 xor-window a b h =
     let z : bit_xor a b / 2 ^ 7 ≡ 0 = omega arith in
     xor_same (a / 128) (b / 128) (sym (xor_shr a b 7) ∙ z)
-
--- a word that two signed tests leave
-pub low_word : (n : ℕ) → lt_z (to_z w64 n) (pos 0) ≡ false → lt_z (to_z w64 n) (pos 128) ≡ true → n < 128
-low_word n e f = go (ltb n (2 ^ 63)) e f
-  where
-    go : (t : Bool) → lt_z (sel t (pos n) (negsuc (2 ^ 64 - suc n))) (pos 0) ≡ false → lt_z (sel t (pos n) (negsuc (2 ^ 64 - suc n))) (pos 128) ≡ true → n < 128
-    go true e' f' = ltb-true n 128 f'
-    go false e' f' = never (sym e')
 
 -- each of the numbers that were joined to all is at most all
 pub or-more : (f : ℕ → ℕ) (j all : ℕ) → ((i : ℕ) → i < j → f i ≤ all) → (i : ℕ) → i < j + 1 → f i ≤ bit_or all (f j)
@@ -123,6 +115,21 @@ window-within t y z e w =
 pub run_none : (ps : List ℤ) (k : ℕ) (last : ℤ) → k ≤ length ps → WindowRun ps k last 0
 run_none ps k last h = record { same = λ j l. let y : ⊥ = omega arith in absurd y; inside = omega arith; blocks = refl }
 
+-- of the m pixels from k on
+pub run-slice : (ps : List ℤ) (k m : ℕ) {last : ℤ} {n : ℕ} → k + m ≤ length ps → WindowRun (take m (drop k ps)) 0 last n → WindowRun ps k last n
+run-slice ps k m {last} {n} h R =
+    let e = length-take-le m (drop k ps) (omega (arith, length-drop k ps)) in
+    let i = R.inside in
+    record {
+      same =
+          λ j l.
+          let z : 0 + j ≡ j = omega arith in
+          subst (λ (y : ℤ). SameWindow y last)
+          (ap (λ (i : ℕ). get_or (take m (drop k ps)) i (pos 0)) z ∙ get_or-take m (drop k ps) j (pos 0) (omega arith) ∙ get_or-drop k ps j (pos 0)) (R.same j l);
+      inside = omega arith;
+      blocks = R.blocks;
+    }
+
 pub run_more : {ps : List ℤ} {k : ℕ} {last : ℤ} {n : ℕ} → WindowRun ps k last n
     → ((j : ℕ) → j < 32 → SameWindow (get_or ps (k + n + j) (pos 0)) last) → k + n + 32 ≤ length ps
     → WindowRun ps k last (n + 32)
@@ -134,3 +141,14 @@ run_more {ps} {k} {last} {n} R h l = let b = R.blocks in record { same = λ j u.
         let v = ltb-false j n q in
         let e : k + n + (j - n) ≡ k + j = omega arith in
         subst (λ (i : ℕ). SameWindow (get_or ps i (pos 0)) last) e (h (j - n) (omega arith))
+
+-- a block more
+pub run-block : (ps : List ℤ) (n m : ℕ) {last : ℤ} → WindowRun ps 0 last n → 32 ≤ m → n + 32 ≤ length ps
+    → ((j : ℕ) → j < 32 → SameWindow (get_or (take m (drop n ps)) j (pos 0)) last) → WindowRun ps 0 last (n + 32)
+run-block ps n m {last} R h l f =
+    run_more R
+    (λ j g.
+    let q : n + j ≡ 0 + n + j = omega arith in
+    subst (λ (y : ℤ). SameWindow y last)
+    (get_or-take m (drop n ps) j (pos 0) (omega arith) ∙ get_or-drop n ps j (pos 0) ∙ ap (λ (i : ℕ). get_or ps i (pos 0)) q) (f j g))
+    (omega arith)

@@ -2,17 +2,16 @@
 use Rattle.std.specs.Prelude.{◌≡◌, ℕ, zero, suc, ◌+◌, true, cond, List, length, take, drop, ℤ, pos, ◌-ℤ◌, nat_lt, slice_index_or, unsigned_abs}
 use Rattle.cbf_pixels.specs.Pixels.{within, all_within, pack_from, pack_byte_offset, least, greatest}
 use Rattle.cbf_pixels.specs.declared.ElementType.{ElementType}
-use Rattle.cbf_measure.specs.declared.measure.Size.{Size}
-use Rattle.cbf_measure.specs.declared.measure.Size.TheVariants.{Outside, Octets}
+use Rattle.std.specs.Prelude.{Option, None, Some}
 use Rattle.cbf_pixels.specs.Pixels as P
 
 -- the n pixels from k on
 abbrev pub part : List ℤ → ℕ → ℕ → List ℤ
 part ps k n = take n (drop k ps)
 
--- the octets that pixels after z take, and 0 where one of them is outside lo to hi
-unfoldable pub size_within : ℤ → ℤ → ℤ → List ℤ → ℕ
-size_within lo hi z ps = cond (all_within lo hi ps) (length (pack_from z ps)) 0
+-- the octets that pixels after z take, where all of them are from lo to hi
+unfoldable pub size_within : ℤ → ℤ → ℤ → List ℤ → Option ℕ
+size_within lo hi z ps = cond (all_within lo hi ps) (Some (length (pack_from z ps))) None
 
 -- the octets of the n pixels after i
 abbrev pub steps_size : List ℤ → ℕ → ℕ → ℕ
@@ -34,6 +33,6 @@ pub record Typed (lo hi z : ℤ) : Type 0 where
   pub greatest : hi ≡ P.greatest type
   pub inside : within lo hi z ≡ true
 
--- what the first pass of packing finds
-unfoldable pub size_of : ElementType → List ℤ → Size
-size_of t ps = cond (all_within (P.least t) (P.greatest t) ps) (Octets (length (pack_byte_offset ps))) Outside
+-- what the first pass of packing finds: the octets of pixels of the type
+unfoldable pub size_of : ElementType → List ℤ → Option ℕ
+size_of t ps = cond (all_within (P.least t) (P.greatest t) ps) (Some (length (pack_byte_offset ps))) None

@@ -6,7 +6,8 @@ use mathlib.Core.Path.{◌≡◌, refl, sym, ap, ◌∙◌}
 use mathlib.Core.List.{List, [], ◌∷◌, ◌++◌, append-nil}
 use mathlib.Core.Bool.{Bool, true, false, cond}
 use mathlib.Core.Logic.{◌⊎◌, inl, inr}
-use mathlib.Core.Option.{Option, none, some, map}
+use Rattle.std.specs.Prelude.{Option, None, Some}
+use Rattle.std.specs.Prelude.{option_map}
 use lib.Dec.{leb, eqb}
 use lib.ListN.{length, take, drop, length-drop, length-append}
 use lib.Seq.{take-append-le, drop-append-le}
@@ -23,12 +24,12 @@ use Rattle.cbf_pixels.proofs.Bounds.{total}
 
 pub some-onto : (xs : List ℤ) (r : Option (List ℤ)) → is_some (onto_pixels xs r) ≡ is_some r
 unfolding is_some
-some-onto xs none = refl
-some-onto xs (some ps) = refl
+some-onto xs None = refl
+some-onto xs (Some ps) = refl
 
-map-onto : (p : ℤ) (r : Option (List ℤ)) → map (λ (ps : List ℤ). p ∷ ps) r ≡ onto_pixels (p ∷ []) r
-map-onto p none = refl
-map-onto p (some ps) = refl
+map-onto : (p : ℤ) (r : Option (List ℤ)) → option_map (λ (ps : List ℤ). p ∷ ps) r ≡ onto_pixels (p ∷ []) r
+map-onto p None = refl
+map-onto p (Some ps) = refl
 
 no-run-out : {d : ℤ} {os : List ℕ} → got d os ≡ run_out → ⊥
 no-run-out e = let z : ◌≡◌ {A = ℕ} 0 1 = cc in omega arith
@@ -108,11 +109,11 @@ module _ (t : ElementType) (os tail : List ℕ) (z : ℤ) (i m : ℕ) where
     rest-next w =
         one_more_lem ∙ rw (read_behind widths (drop i os) tail e, w) (map-onto (z +ℤ d) (unpack_from (least t) (greatest t) (z +ℤ d) m (drop j os ++ tail)))
 
-    pub rest-outside : within (least t) (greatest t) (z +ℤ d) ≡ false → rest t os tail z i (1 + m) ≡ none
+    pub rest-outside : within (least t) (greatest t) (z +ℤ d) ≡ false → rest t os tail z i (1 + m) ≡ None
     unfolding rest unpack_from next_pixel add_difference
     rest-outside w = one_more_lem ∙ rw (read_behind widths (drop i os) tail e, w)
 
-  pub rest-run-out : read_by widths (drop i os) ≡ run_out → tail ≡ [] → rest t os tail z i (1 + m) ≡ none
+  pub rest-run-out : read_by widths (drop i os) ≡ run_out → tail ≡ [] → rest t os tail z i (1 + m) ≡ None
   unfolding rest unpack_from next_pixel add_difference
   rest-run-out e n = one_more_lem ∙ rw (n, append-nil (drop i os), e)
 

@@ -1,6 +1,6 @@
 -- What is left to unpack, where octets may come part by part. Nothing here is part of what the public calls promise.
 use Rattle.std.specs.Prelude.{ℕ, ◌+◌, ◌<◌, ◌≤◌, ◌≡◌, List, [], ◌++◌, Bool, true, false, ◌⊎◌, length, drop, ℤ}
-use Rattle.std.proofs.Math.Option.{Option, none, some}
+use Rattle.std.specs.Prelude.{Option, None, Some}
 use Rattle.cbf_pixels.specs.Pixels.{unpack_from, least, greatest}
 use Rattle.cbf_pixels.specs.declared.ElementType.{ElementType}
 
@@ -14,8 +14,8 @@ abbrev pub Enough : List ℕ → List ℕ → ℕ → ℕ → Type 0
 Enough os tail i size = (tail ≡ []) ⊎ (i + size ≤ length os)
 
 abbrev pub onto_pixels : List ℤ → Option (List ℤ) → Option (List ℤ)
-onto_pixels xs none = none
-onto_pixels xs (some ps) = some (xs ++ ps)
+onto_pixels xs None = None
+onto_pixels xs (Some ps) = Some (xs ++ ps)
 
 -- ---- Parts. Octets that come through a window are unpacked part by part: each pass goes over the octets that are
 -- there, and stops where fewer than 480 are left (32 pixels of at most 15), unless the octets have ended.

@@ -19,15 +19,16 @@ fn far(n: u64) -> i64
     ensures { result ≡ clamped (signed 8 n) }
 {
     if n <= 8589934592 {
-        return n as i64;
+        n as i64
+    } else if n < 18446744065119617024 {
+        68719476736
+    } else {
+        -1 - (u64::MAX - n) as i64
     }
-    if n < 18446744065119617024 {
-        return 68719476736;
-    }
-    -1 - (18446744073709551615 - n) as i64
 }
 
-#[derive(Clone, Copy)]
+// One difference, clamped, and where the next one starts.
+#[derive(Clone, Copy, Debug, PartialEq, Eq)]
 pub struct Difference {
     pub value: i64,
     pub next: usize,
@@ -41,7 +42,7 @@ pub fn read_difference(octets: &[u8], i: usize) -> Difference
     let o = octets[i];
     if o != 128 {
         return Difference {
-            value: extended(octets::wide(o), 128),
+            value: extended(u64::from(o), 128),
             next: i + 1,
         };
     }
@@ -65,14 +66,15 @@ pub fn read_difference(octets: &[u8], i: usize) -> Difference
     }
 }
 
-// Whether the octets do not run out in the difference that starts at i.
+// Whether the octets do not run out in the difference that starts at i. The widths are tried as they are read: one
+// expression of the seven tests would hide that.
 pub fn whole(octets: &[u8], i: usize) -> bool
     requires { i ≤ length octets.now }
     ensures { (result ≡ true → Whole octets.now i)
         × (result ≡ false → read_by widths (drop i octets.now) ≡ run_out) }
 {
     let left = octets.len() - i;
-    if left < 1 {
+    if left == 0 {
         return false;
     }
     if octets[i] != 128 {

@@ -8,16 +8,15 @@ pub mod octets;
 pub mod plain;
 
 // Where unpacking stands: the last pixel, and where the next difference starts.
-#[derive(Clone, Copy)]
+#[derive(Clone, Copy, Debug, PartialEq, Eq)]
 pub struct Last {
     pub pixel: i64,
     pub next: usize,
 }
 
-// A part of the pixels: whether they unpack, how many they are, and where unpacking stands after them.
-#[derive(Clone, Copy)]
+// A part of the pixels: how many they are, and where unpacking stands after them.
+#[derive(Clone, Copy, Debug, PartialEq, Eq)]
 pub struct Part {
-    pub good: bool,
     pub count: usize,
     pub last: Last,
 }

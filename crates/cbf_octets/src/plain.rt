@@ -8,13 +8,12 @@ fn escapes(octets: &[u8], i: usize) -> bool
     requires { i + 32 ≤ length octets.now }
     ensures { result ≡ false → Plain octets.now i 32 }
 {
+    // without an early end, as `contains` has one: so the 32 are tested at once
     let mut found = false;
-    let mut j: usize = 0;
-    while j < 32 {
+    for j in 0..32 {
         if octets[i + j] == 128 {
             found = true;
         }
-        j += 1;
     }
     found
 }
@@ -26,29 +25,15 @@ fn plain_blocks(octets: &[u8], i: usize, limit: usize) -> usize
     ensures { PlainRun octets.now i limit result }
 {
     let left = octets.len() - i;
-    if left < 1 {
+    if left == 0 || octets[i] == 128 {
         return 0;
     }
-    if octets[i] == 128 {
-        return 0;
-    }
-    let mut n: usize = 0;
-    while 32 <= limit - n {
-        if left - n < 32 {
-            return n;
-        }
-        if escapes(octets, i + n) {
-            return n;
-        }
+    let mut n = 0;
+    // no `chunks`: the place where the blocks end is the answer
+    while 32 <= limit - n && 32 <= left - n && !escapes(octets, i + n) {
         n += 32;
     }
     n
-}
-
-fn short(n: usize) -> usize
-    ensures { (result ≤ n) × (result ≤ 4096) }
-{
-    if n < 4096 { n } else { 4096 }
 }
 
 // The same, at most 4,096: so many differences of one octet stay far from the ends of a type of 32 bits, and the
@@ -57,14 +42,14 @@ pub fn plain_run(octets: &[u8], i: usize, limit: usize) -> usize
     requires { i ≤ length octets.now }
     ensures { PlainRun octets.now i limit result }
 {
-    plain_blocks(octets, i, short(limit))
+    plain_blocks(octets, i, limit.min(4096))
 }
 
 // How many pixels the next part has, where n are left.
 pub fn part(n: usize) -> usize
     ensures { (result ≤ n) × (result ≤ 32) × (0 < n → 0 < result) }
 {
-    if n < 32 { n } else { 32 }
+    n.min(32)
 }
 
 // 32 pixels of at most 15 octets.
@@ -74,8 +59,5 @@ const PART_OCTETS: usize = 480;
 pub fn waits(ended: bool, left: usize) -> bool
     ensures { (result ≡ true → (ended ≡ false) × (left < 480)) × (result ≡ false → (ended ≡ true) ⊎ (480 ≤ left)) }
 {
-    if ended {
-        return false;
-    }
-    left < PART_OCTETS
+    !ended && left < PART_OCTETS
 }

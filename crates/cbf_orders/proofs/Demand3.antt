@@ -1,7 +1,7 @@
 -- Demand 3 over the definitions of the calls. Assumes nothing.
 use mathlib.Core.Path.{◌≡◌, refl, sym, ap, ◌∙◌, subst}
 use mathlib.Core.Logic.{◌≢◌}
-use mathlib.Core.Option.{Option, some}
+use Rattle.std.specs.Prelude.{Option, Some}
 use mathlib.Core.Bool.{Bool, true, false, cond}
 use mathlib.Core.List.{List, [], ◌∷◌}
 use Prim.Native.Nat.{ℕ, ◌≤◌}
@@ -157,7 +157,7 @@ module _ (file : List ℕ) (tree : Tree) (a b : Edit) (reads : read line_limit f
       then e = subst (λ (o : Outcome). ReplacesThen o x.first.after b x.second) e s.second
 
       made : Room one x.first.before
-          → (o : Outcome) × (x.second.answer ≡ some o) × CallSays all (answered x.second o)
+          → (o : Outcome) × (x.second.answer ≡ Some o) × CallSays all (answered x.second o)
       made r =
           let u = first.given r in
           let m = then u.0 in
@@ -177,7 +177,7 @@ given-front {all} s r r' = ap (take (length all)) ((s.made r).2.given r').1 ∙ 
 
 -- a section in house form with a frame that fits unpacks to it
 module _ (file : List ℕ) (a : Edit) (i : Section) (tree : Tree) (p : Placed) (reads : read line_limit file ≡ good tree)
-    (is_at : numbered a.number (sections 0 tree) ≡ some p) (housed : p.section ≡ housed_section (packed a) i)
+    (is_at : numbered a.number (sections 0 tree) ≡ Some p) (housed : p.section ≡ housed_section (packed a) i)
     (fits : frame_fits i.description a.frame ≡ true) where
   at : section_numbered (read line_limit file) a.number ≡ value p
   at = ap (λ (x : _). section_numbered x a.number) reads ∙ ap or_missing is_at
@@ -189,7 +189,7 @@ module _ (file : List ℕ) (a : Edit) (i : Section) (tree : Tree) (p : Placed) (
   abbrev unpacked : Description → List ℕ → Option (List ℤ)
   unpacked d os = unpack_pixels d.compression d.kind d.elements os
 
-  unpacks : frame_of p ≡ some a.frame
+  unpacks : frame_of p ≡ Some a.frame
   unfolding frame_of unpack_pixels
   unpacks =
       ap (λ (z : Section). unpacked z.description z.octets) housed
@@ -237,14 +237,14 @@ module _ (file : List ℕ) (a b : Edit) (h : Premises file a b) where
       (fit-later h.tree _ _ (fit file h.accepted h.fits_a) (fit file h.accepted h.fits_b))
 
   -- the section of an edit
-  housed : {e : Edit} (c : Fitting h.tree e) → fg e.number ≡ some (packed e)
-      → (x : Placed) × (numbered e.number (sections 0 tree) ≡ some x)
+  housed : {e : Edit} (c : Fitting h.tree e) → fg e.number ≡ Some (packed e)
+      → (x : Placed) × (numbered e.number (sections 0 tree) ≡ Some x)
       × (x.section ≡ housed_section (packed e) c.at.section)
   housed {e} c s =
       let t = section-then line_limit file h.tree h.accepted fg e.number c.at c.is_at in
       (t.0, t.1, t.2 ∙ ap (λ (o : Option (List ℕ)). section_then o c.at.section) s)
 
-  reads : {e : Edit} (c : Fitting h.tree e) → fg e.number ≡ some (packed e) → length whole ≤ file_limit
+  reads : {e : Edit} (c : Fitting h.tree e) → fg e.number ≡ Some (packed e) → length whole ≤ file_limit
       → ReadsBack whole e
   reads {e} c s l =
       let t = housed c s in reads-back whole e c.at.section tree t.0 (accepted l) t.1 t.2 c.fits
@@ -265,10 +265,10 @@ module _ (file : List ℕ) (a b : Edit) (h : Premises file a b) where
   spans-kept : Kept (ltb a.number b.number)
   spans-kept = go (ltb a.number b.number) refl
     where
-      x : numbered a.number (sections 0 tree) ≡ some new-p
+      x : numbered a.number (sections 0 tree) ≡ Some new-p
       x = (housed h.fits_a two.first).1
 
-      y : numbered b.number (sections 0 tree) ≡ some new-q
+      y : numbered b.number (sections 0 tree) ≡ Some new-q
       y = (housed h.fits_b two.second).1
 
       kept : {x y x' y' : Placed} (os os' : List ℕ)

@@ -1,6 +1,6 @@
 -- The two calls of an order: what each says, and that a file that was given can be read in its output. Assumes nothing.
 use mathlib.Core.Path.{◌≡◌, refl, sym, ap, ◌∙◌}
-use mathlib.Core.Option.{Option, none, some}
+use Rattle.std.specs.Prelude.{Option, None, Some}
 use mathlib.Core.Bool.{Bool, true, false, cond}
 use mathlib.Core.List.{List}
 use Prim.Native.Nat.{ℕ, ◌≤◌}
@@ -60,8 +60,8 @@ module _ (frame : List ℤ) (room : ℕ) where
       go : (o : Option Placed) → Within room (section_outcome (or_missing o) (λ p.
           let d = p.section.description in
           C.replace_for d.encoding d frame (replaced_file file p (pack_byte_offset frame)) room))
-      go none = no_answer 12 0
-      go (some p) =
+      go None = no_answer 12 0
+      go (Some p) =
           for p.section.description (replaced_file file p (pack_byte_offset frame)) p.section.description.encoding
 
 abbrev reading : List ℕ → Reading (Item State Section)

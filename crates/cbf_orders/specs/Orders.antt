@@ -2,7 +2,7 @@
 -- give the same file, both frames read back, every byte outside the two spans is the original, and a call is refused
 -- only for want of room. One statement about the four calls together.
 use Rattle.std.specs.Prelude.{◌≡◌, ◌≢◌, Bool, true, false, List, ◌++◌, ℕ, ◌+◌, ◌≤◌, ◌<◌, ltb, length, take, drop, ℤ}
-use Rattle.std.proofs.Math.Option.{Option, none, some}
+use Rattle.std.specs.Prelude.{Option, None, Some, option_map}
 use Rattle.std.proofs.Math.Seq.{slice}
 use Rattle.cbf_walk.specs.Reading.{good}
 use Rattle.cbf_pixels.specs.Pixels.{pack_byte_offset}
@@ -14,8 +14,6 @@ use Rattle.cbf_format.specs.Listing.{Placed, sections, numbered}
 use Rattle.cbf_format.specs.House.{house, replaced_file, only, later, replaced_sections}
 use Rattle.cbf_format.specs.SectionCalls.{frame_outcome, frame_pixels}
 use Rattle.cbf_format.specs.ReplaceCalls.{frame_fits, replace_outcome, replaced_by}
-use Rattle.cbf_orders.specs.declared.Second.{Second}
-use Rattle.cbf_orders.specs.declared.Second.TheVariants.{NotMade, Made}
 use Rattle.cbf_orders.specs.declared.Order.{Order}
 
 -- ---- the calls
@@ -42,17 +40,12 @@ pub record Calls : Type 0 where
   pub first : Call Outcome
   pub second : Call (Option Outcome)
 
--- document 01's numbers and values for each case of the enum
-abbrev pub second_outcome : Second → Option Outcome
-second_outcome NotMade = none
-second_outcome (Made a) = some (outcome a)
-
 -- the calls that gave these answers, with their lent outputs before and after
 abbrev pub calls : Order → List ℕ → List ℕ → List ℕ → List ℕ → Calls
 calls o before after before₂ after₂ =
     record {
       first = record { answer = outcome o.first; before = before; after = after };
-      second = record { answer = second_outcome o.second; before = before₂; after = after₂ };
+      second = record { answer = option_map outcome o.second; before = before₂; after = after₂ };
     }
 
 -- the call of replacing a section's frame in a file: what it answers, and what it writes
@@ -66,8 +59,8 @@ answered c o = record { answer = o; before = c.before; after = c.after }
 
 -- "A second call reads what the first wrote, up to the answer's length"; without such an answer it is not made
 abbrev pub ReplacesThen : Outcome → List ℕ → Edit → Call (Option Outcome) → Type 0
-ReplacesThen (gives n) out b c = (o : Outcome) × (c.answer ≡ some o) × Replaces (take n out) b (answered c o)
-ReplacesThen (refuses k p) out b c = (c.answer ≡ none) × (c.after ≡ c.before)
+ReplacesThen (gives n) out b c = (o : Outcome) × (c.answer ≡ Some o) × Replaces (take n out) b (answered c o)
+ReplacesThen (refuses k p) out b c = (c.answer ≡ None) × (c.after ≡ c.before)
 
 -- one edit, and then the other, for every input
 pub record OrderSays (file : List ℕ) (a b : Edit) (c : Calls) : Type 0 where
@@ -80,7 +73,7 @@ pub record OrderSays (file : List ℕ) (a b : Edit) (c : Calls) : Type 0 where
 -- type"
 pub record Fitting (tree : Tree) (a : Edit) : Type 0 where
   pub at : Placed
-  pub is_at : numbered a.number (sections 0 tree) ≡ some at
+  pub is_at : numbered a.number (sections 0 tree) ≡ Some at
   pub binary : at.section.description.encoding ≡ Binary
   pub fits : frame_fits at.section.description a.frame ≡ true
 
@@ -110,9 +103,9 @@ pub record CallSays (new : List ℕ) (c : Call Outcome) : Type 0 where
 pub record CallsSay (one both : List ℕ) (c : Calls) : Type 0 where
   pub first : CallSays one c.first
   pub made : Room one c.first.before
-      → (o : Outcome) × (c.second.answer ≡ some o) × CallSays both (answered c.second o)
+      → (o : Outcome) × (c.second.answer ≡ Some o) × CallSays both (answered c.second o)
   pub not_made : (Room one c.first.before → ⊥)
-      → (c.second.answer ≡ none) × (c.second.after ≡ c.second.before)
+      → (c.second.answer ≡ None) × (c.second.after ≡ c.second.before)
 
 -- "Reads back: the section of the same number has octets that unpack to exactly the frame; unpacking it is refused
 -- for too little pixel room only."
@@ -144,7 +137,7 @@ SpansKeptFrom false file p q new p' q' = SpansKept file q p new q' p'
 -- where the section of an edit is in the new tree; its span is house form with the frame
 pub record NewSection (tree : Tree) (a : Edit) (p : Placed) (new : List ℕ) : Type 0 where
   pub at : Placed
-  pub is_at : numbered a.number (sections 0 tree) ≡ some at
+  pub is_at : numbered a.number (sections 0 tree) ≡ Some at
   pub span : slice at.boundary (span_end at) new ≡ house p.section.description (packed a)
 
 module _ (file : List ℕ) (a b : Edit) (h : Premises file a b) where

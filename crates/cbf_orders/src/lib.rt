@@ -5,20 +5,13 @@
 
 ghost use Rattle.cbf_orders.specs.Orders.{edit, calls, OrderSays, Premises, TwoOrders};
 
-use cbf_answers::{Answer, LINE_LIMIT};
+use cbf::{LINE_LIMIT, Refusal};
 
-// The second call of an order: it is made only where the first gave a file.
-#[derive(Clone, Copy)]
-pub enum Second {
-    NotMade,
-    Made(Answer),
-}
-
-// The answers of the two calls of an order.
+// The answers of the two calls of an order; the second is made only where the first gave a file.
 #[derive(Clone, Copy)]
 pub struct Order {
-    pub first: Answer,
-    pub second: Second,
+    pub first: Result<usize, Refusal>,
+    pub second: Option<Result<usize, Refusal>>,
 }
 
 #[derive(Clone, Copy)]
@@ -42,15 +35,15 @@ pub fn one_order(
 {
     let first = cbf::replace(file, LINE_LIMIT, i, f, oi);
     match first {
-        Answer::Refused(r) => Order {
-            first: first,
-            second: Second::NotMade,
+        Err(_) => Order {
+            first,
+            second: None,
         },
-        Answer::Length(n) => {
+        Ok(n) => {
             let second = cbf::replace(&oi[..n], LINE_LIMIT, j, g, oij);
             Order {
-                first: first,
-                second: Second::Made(second),
+                first,
+                second: Some(second),
             }
         }
     }
@@ -79,5 +72,5 @@ pub fn both_orders(
 {
     let ij = one_order(file, i, f, j, g, oi, oij);
     let ji = one_order(file, j, g, i, f, oj, oji);
-    Orders { ij: ij, ji: ji }
+    Orders { ij, ji }
 }

@@ -1,7 +1,6 @@
 -- Differences in one store of eight octets, and what is written over later. Assumes nothing.
 use Prim.Native.Nat.{ℕ, zero, suc, ◌+◌, ◌*◌, ◌-◌, ◌/◌, ◌%◌, ◌^◌, ◌<◌, ◌≤◌}
 use native.Mathlib.Omega.{arith}
-use native.Mathlib.Nat.{div-add-mod'}
 use mathlib.Core.Path.{◌≡◌, refl, sym, ap, ap₂, ◌∙◌, subst}
 use mathlib.Core.Bool.{Bool, true, false}
 use mathlib.Core.List.{List, [], ◌∷◌, ◌++◌, append_assoc, append-nil}
@@ -16,8 +15,9 @@ use borrow.Author.Tests.{ltb-true, ltb-false}
 use Rattle.cbf_pixels.specs.Octets.{octets, bits}
 use Rattle.cbf_pixels.specs.Pixels.{pack_difference, pack_from}
 use Rattle.cbf_measure.specs.Measure.{over, part}
-use Rattle.cbf_pack.specs.Write.{forms, Small, Writable, Wrote, WroteOver}
-use Rattle.cbf_pack.specs.Dense.{stored_as, form_length, PutOver}
+use Rattle.cbf_pack.specs.Write.{Small, Writable, Wrote, WroteOver}
+use Rattle.cbf_pack.specs.Dense.{packing_forms, stored_as, form_length, PutOver}
+use Rattle.cbf_pack.specs.declared.dense.Forms.{Forms}
 use Rattle.cbf_measure.proofs.PartsLaws.{last_of}
 use Rattle.cbf_pixels.proofs.Numbers.{length-octets}
 use Rattle.cbf_pixels.proofs.Bounds.{from-bounds}
@@ -25,32 +25,24 @@ use Rattle.cbf_octets.proofs.OctetsLaws.{octets-add}
 use Rattle.cbf_answers.proofs.Stores.{sets-append}
 use Rattle.cbf_pixels.proofs.Forms.{form1, form2, form4, form-size}
 use Rattle.cbf_measure.proofs.RangeLaws.{over_no, over_yes}
-use Rattle.cbf_pack.proofs.WriteLaws.{lifted, lifted-is, lifted-bits, gap, wrote-length, wrote_as, wrote-word}
+use Rattle.cbf_pack.proofs.WriteLaws.{octets-block, octets-mod, lifted, lifted-is, lifted-bits, gap, wrote-length, wrote_as, wrote-word}
 use Rattle.cbf_pack.proofs.WriteLaws.{Upto, upto-none, upto-writable, upto-more, upto-one, wrote_none}
 use Rattle.cbf_pack.proofs.WriteLaws.{writable_then}
 
--- ---- the table
+-- ---- the forms
 
-pub stored_is : (t : List ℕ) (n c : ℕ) → t ≡ forms → c ≤ 2 → n < 2 ^ 33
-    → (get_or t c 0 < 64) × (n * 2 ^ get_or t c 0 % 18446744073709551616 + get_or t (c + 3) 0 ≡ stored_as c n) × (stored_as c n < 2 ^ 63)
-unfolding stored_as
-stored_is t n c e h l = rw e (go c h)
+pub form_is : (f : Forms) (n c : ℕ) → f ≡ packing_forms → c ≤ 2 → n < 2 ^ 33
+    → (get_or f.shift c 0 < 64) × (n * 2 ^ get_or f.shift c 0 % 18446744073709551616 + get_or f.escapes c 0 ≡ stored_as c n)
+    × (stored_as c n < 2 ^ 63) × (get_or f.length c 0 ≡ form_length c)
+unfolding stored_as form_length
+form_is f n c e h l = rw e (go c h)
   where
-    go : (c : ℕ) → c ≤ 2 → (get_or forms c 0 < 64) × (n * 2 ^ get_or forms c 0 % 18446744073709551616 + get_or forms (c + 3) 0 ≡ stored_as c n)
-        × (stored_as c n < 2 ^ 63)
-    go zero h = (omega arith, omega arith, omega arith)
-    go (suc zero) h = (omega arith, omega arith, omega arith)
-    go (suc (suc zero)) h = (omega arith, omega arith, omega arith)
-    go (suc (suc (suc c))) h = let y : ⊥ = omega arith in absurd y
-
-pub length_is : (t : List ℕ) (c : ℕ) → t ≡ forms → c ≤ 2 → (get_or t (c + 6) 0 ≡ form_length c) × (get_or t (c + 6) 0 ≤ 7)
-unfolding form_length
-length_is t c e h = rw e (go c h)
-  where
-    go : (c : ℕ) → c ≤ 2 → (get_or forms (c + 6) 0 ≡ form_length c) × (get_or forms (c + 6) 0 ≤ 7)
-    go zero h = (refl, omega arith)
-    go (suc zero) h = (refl, omega arith)
-    go (suc (suc zero)) h = (refl, omega arith)
+    go : (c : ℕ) → c ≤ 2 → (get_or packing_forms.shift c 0 < 64)
+        × (n * 2 ^ get_or packing_forms.shift c 0 % 18446744073709551616 + get_or packing_forms.escapes c 0 ≡ stored_as c n)
+        × (stored_as c n < 2 ^ 63) × (get_or packing_forms.length c 0 ≡ form_length c)
+    go zero h = (omega arith, omega arith, omega arith, refl)
+    go (suc zero) h = (omega arith, omega arith, omega arith, refl)
+    go (suc (suc zero)) h = (omega arith, omega arith, omega arith, refl)
     go (suc (suc (suc c))) h = let y : ⊥ = omega arith in absurd y
 
 -- ---- a difference, raised by 2^32
@@ -67,20 +59,6 @@ low-2 : (d : ℤ) → nat_abs d < 32768 → lifted d 4294967296 % 65536 ≡ bits
 unfolding bits
 low-2 (pos m) h = omega arith
 low-2 (negsuc m) h = omega arith
-
--- the lowest octets of a number are those of its rest
-octets-block : (k a r : ℕ) → octets k (a * 256 ^ k + r) ≡ octets k r
-unfolding octets
-octets-block zero a r = refl
-octets-block (suc k) a r =
-    let p : 256 ^ suc k ≡ 256 * 256 ^ k = omega arith in
-    let e : a * 256 ^ suc k + r ≡ a * 256 ^ k * 256 + r = ap (λ (x : ℕ). a * x + r) p ∙ omega arith in
-    let u : (a * 256 ^ k * 256 + r) % 256 ≡ r % 256 = omega arith in
-    let v : (a * 256 ^ k * 256 + r) / 256 ≡ a * 256 ^ k + r / 256 = omega arith in
-    ap (octets (suc k)) e ∙ ap₂ (λ (x y : ℕ). x ∷ octets k y) u v ∙ ap (λ (l : List ℕ). r % 256 ∷ l) (octets-block k a (r / 256))
-
-octets-mod : (k n : ℕ) → octets k n ≡ octets k (n % 256 ^ k)
-octets-mod k n = ap (octets k) (sym (div-add-mod' n (256 ^ k))) ∙ octets-block k (n / 256 ^ k) (n % 256 ^ k)
 
 -- the octets of the number that is stored
 pub record Stored (d : ℤ) (m size : ℕ) : Type 0 where
@@ -198,30 +176,30 @@ sets-cover l p (x ∷ g) (y ∷ ys) h =
 
 -- ---- pixels written one after another, with octets behind them that are written over later
 
-pub record Along (ps : List ℤ) (k n : ℕ) (last : ℤ) (out : List ℕ) (at j : ℕ) (out' : List ℕ) (word next limit : ℕ) : Type 0 where
+pub record Along (ps : List ℤ) (k n : ℕ) (last : ℤ) (out : List ℕ) (at j : ℕ) (out' : List ℕ) (prev : ℤ) (next limit : ℕ) : Type 0 where
   pub clean : List ℕ
-  pub upto : Upto ps k n last out at j clean word next
+  pub upto : Upto ps k n last out at j clean prev next
   pub behind : List ℕ
   pub few : length behind ≤ limit
   pub seven : length behind ≤ 7
   pub is : out' ≡ sets clean next behind
 
-pub along-none : {ps : List ℤ} {k n : ℕ} {last : ℤ} {out : List ℕ} {at word next limit : ℕ} → to_z w64 word ≡ last → next ≡ at
-    → Along ps k n last out at 0 out word next limit
+pub along-none : {ps : List ℤ} {k n : ℕ} {last : ℤ} {out : List ℕ} {at : ℕ} {prev : ℤ} {next limit : ℕ} → prev ≡ last → next ≡ at
+    → Along ps k n last out at 0 out prev next limit
 along-none {out = out} e q = record { clean = out; upto = upto-none e q; behind = []; few = omega arith; seven = omega arith; is = refl }
 
-along-length : {ps : List ℤ} {k n : ℕ} {last : ℤ} {out : List ℕ} {at j : ℕ} {out' : List ℕ} {word next limit : ℕ}
-    (a : Along ps k n last out at j out' word next limit) → length out' ≡ length a.clean
+along-length : {ps : List ℤ} {k n : ℕ} {last : ℤ} {out : List ℕ} {at j : ℕ} {out' : List ℕ} {prev : ℤ} {next limit : ℕ}
+    (a : Along ps k n last out at j out' prev next limit) → length out' ≡ length a.clean
 along-length {next = next} a = ap length a.is ∙ length-sets a.clean next a.behind
 
-pub along-same : {ps : List ℤ} {k n : ℕ} {last : ℤ} {out : List ℕ} {at j : ℕ} {out' : List ℕ} {word next limit : ℕ}
-    → Along ps k n last out at j out' word next limit → length out' ≡ length out
+pub along-same : {ps : List ℤ} {k n : ℕ} {last : ℤ} {out : List ℕ} {at j : ℕ} {out' : List ℕ} {prev : ℤ} {next limit : ℕ}
+    → Along ps k n last out at j out' prev next limit → length out' ≡ length out
 along-same a = along-length a ∙ wrote-length a.upto.wrote
 
-module _ {ps : List ℤ} {k n : ℕ} {last : ℤ} {out : List ℕ} {at : ℕ} (w : Writable ps k n last out at) {j : ℕ} {out' : List ℕ} {word next limit : ℕ}
-    (a : Along ps k n last out at j out' word next limit) (m i : ℕ) (e : i ≡ k + j) (l : j + m ≤ n) where
+module _ {ps : List ℤ} {k n : ℕ} {last : ℤ} {out : List ℕ} {at : ℕ} (w : Writable ps k n last out at) {j : ℕ} {out' : List ℕ} {prev : ℤ} {next limit : ℕ}
+    (a : Along ps k n last out at j out' prev next limit) (m i : ℕ) (e : i ≡ k + j) (l : j + m ≤ n) where
   -- the next m have room
-  pub along-writable : Writable ps i m (to_z w64 word) out' next
+  pub along-writable : Writable ps i m prev out' next
   along-writable =
       let v = upto-writable w a.upto m i e l in
       record { small = v.small; before = v.before; pixels = v.pixels; room = omega (arith, v.room, along-length a) }
@@ -230,15 +208,15 @@ module _ {ps : List ℤ} {k n : ℕ} {last : ℤ} {out : List ℕ} {at : ℕ} (w
   pub along-room : next + m ≤ length out'
   along-room =
       let v = along-writable in
-      let s = (from-bounds (to_z w64 word) (part ps i m)).0 in
+      let s = (from-bounds prev (part ps i m)).0 in
       omega (arith, v.room, v.pixels, length-take-le m (drop i ps) (omega (arith, v.pixels, length-drop i ps)))
 
-pub along_one : {ps : List ℤ} {k n : ℕ} {last : ℤ} {out : List ℕ} {at j : ℕ} {out' : List ℕ} {word next : ℕ} → Writable ps k n last out at
-    → Along ps k n last out at j out' word next 7
-    → (i : ℕ) → i ≡ k + j → j + 1 ≤ n → {out'' : List ℕ} {next' : ℕ} → PutOver (to_z w64 (of_z w64 (gap ps i word))) out' next out'' next'
-    → Along ps k n last out at (j + 1) out'' (of_z w64 (get_or ps i (pos 0))) next' 7
-along_one {ps} {k} {n} {last} {out} {at} {j} {out'} {word} {next} w a i e l {out''} {next'} p =
-    let d = pack_difference (to_z w64 (of_z w64 (gap ps i word))) in
+pub along_one : {ps : List ℤ} {k n : ℕ} {last : ℤ} {out : List ℕ} {at j : ℕ} {out' : List ℕ} {prev : ℤ} {next : ℕ} → Writable ps k n last out at
+    → Along ps k n last out at j out' prev next 7
+    → (i : ℕ) → i ≡ k + j → j + 1 ≤ n → {out'' : List ℕ} {next' : ℕ} → PutOver (to_z w64 (of_z w64 (gap ps i prev))) out' next out'' next'
+    → Along ps k n last out at (j + 1) out'' (to_z w64 (of_z w64 (get_or ps i (pos 0)))) next' 7
+along_one {ps} {k} {n} {last} {out} {at} {j} {out'} {prev} {next} w a i e l {out''} {next'} p =
+    let d = pack_difference (to_z w64 (of_z w64 (gap ps i prev))) in
     record {
       clean = sets a.clean next d;
       upto = upto-one w a.upto i e l (p.after, refl);
@@ -254,8 +232,8 @@ along_one {ps} {k} {n} {last} {out} {at} {j} {out'} {word} {next} w a i e l {out
     }
 
 -- n of them
-pub along-all : {ps : List ℤ} {k n N : ℕ} {last : ℤ} {out : List ℕ} {at j : ℕ} {out' : List ℕ} {word next limit : ℕ}
-    → Along ps k N (to_z w64 (of_z w64 last)) out at j out' word next limit → Small last → n ≡ j
+pub along-all : {ps : List ℤ} {k n N : ℕ} {last : ℤ} {out : List ℕ} {at j : ℕ} {out' : List ℕ} {prev : ℤ} {next limit : ℕ}
+    → Along ps k N (to_z w64 (of_z w64 last)) out at j out' prev next limit → Small last → n ≡ j
     → WroteOver ps k n last out at out' next limit
 along-all a h e =
     record { clean = a.clean; wrote = wrote-word h (wrote_as a.upto.wrote e refl refl); behind = a.behind; few = a.few; seven = a.seven; is = a.is }
@@ -297,10 +275,10 @@ wrote-cover {ps} {k} {n} {last} {at} clean behind w e l h =
     }
 
 pub along-more : {ps : List ℤ} {k n : ℕ} {last : ℤ} {out : List ℕ} {at : ℕ} → Writable ps k n last out at
-    → {j : ℕ} {out' : List ℕ} {word next limit : ℕ} (a : Along ps k n last out at j out' word next limit) (m i : ℕ)
+    → {j : ℕ} {out' : List ℕ} {prev : ℤ} {next limit : ℕ} (a : Along ps k n last out at j out' prev next limit) (m i : ℕ)
     → i ≡ k + j → j + m ≤ n → length a.behind ≤ m → (i' : ℕ) {out'' : List ℕ} {next' limit' : ℕ} → i' + 1 ≡ k + (j + m) → 0 < m
-    → WroteOver ps i m (to_z w64 word) out' next out'' next' limit'
-    → Along ps k n last out at (j + m) out'' (of_z w64 (get_or ps i' (pos 0))) next' limit'
+    → WroteOver ps i m prev out' next out'' next' limit'
+    → Along ps k n last out at (j + m) out'' (to_z w64 (of_z w64 (get_or ps i' (pos 0)))) next' limit'
 along-more {ps} {k} {n} w a m i e l b i' q p o =
     record {
       clean = o.clean;
@@ -312,8 +290,8 @@ along-more {ps} {k} {n} w a m i e l b i' q p o =
     }
 
 -- all of them: nothing is left behind
-pub along-end : {ps : List ℤ} {last : ℤ} {out : List ℕ} {at j : ℕ} {out' : List ℕ} {word next : ℕ}
-    → Along ps 0 (length ps) last out at j out' word next (length ps - j) → length ps ≤ j → Wrote ps 0 (length ps) last out at out' next
+pub along-end : {ps : List ℤ} {last : ℤ} {out : List ℕ} {at j : ℕ} {out' : List ℕ} {prev : ℤ} {next : ℕ}
+    → Along ps 0 (length ps) last out at j out' prev next (length ps - j) → length ps ≤ j → Wrote ps 0 (length ps) last out at out' next
 along-end {ps} {next = next} a h = wrote_as a.upto.wrote (omega (arith, a.upto.few))
     (a.is ∙ ap (sets a.clean next) (none a.behind (omega (arith, a.few)))) refl
   where

@@ -9,7 +9,7 @@ use lib.Seq.{sets}
 use lib.IntN.{ℤ}
 use borrow.Author.Tests.{le-leb, lt-leb}
 use Rattle.cbf_pixels.specs.declared.ElementType.{ElementType}
-use Rattle.cbf_measure.specs.declared.measure.Size.TheVariants.{Outside, Octets}
+use Rattle.std.specs.Prelude.{None, Some}
 use Rattle.cbf_pixels.specs.Pixels.{within, all_within, least, greatest, pack_byte_offset}
 use Rattle.cbf_answers.specs.Answers.{Outcome, gives, refuses, written}
 use Rattle.cbf_answers.specs.Limits.{pixel_limit}
@@ -34,36 +34,43 @@ all_small t (p ∷ ps) e =
     let w = cond-left (within (least t) (greatest t) p) (all_within (least t) (greatest t) ps) e in
     (inside t p w, all_small t ps (cond-right (within (least t) (greatest t) p) (all_within (least t) (greatest t) ps) e))
 
+-- more pixels than a section may have
+pub many_refused : (t : ElementType) (ps : List ℤ) (room : ℕ) → pixel_limit < length ps → pack_outcome t ps room ≡ refuses 14 0
+unfolding pack_outcome
+many_refused t ps room h = rw (lt-leb (length ps) pixel_limit h)
+
+pub many_kept : (t : ElementType) (ps : List ℤ) (out : List ℕ) → pixel_limit < length ps → pack_output t ps out ≡ out
+unfolding pack_output written
+many_kept t ps out h = rw (many_refused t ps (length out) h)
+
+pub ruleset too_many = (many_refused, many_kept)
+
 module _ (t : ElementType) (ps : List ℤ) (out : List ℕ) where
   unfoldable pub Packed : Outcome → List ℕ → Type 0
   Packed o out' = (o ≡ pack_outcome t ps (length out)) × (out' ≡ pack_output t ps out)
 
-  pub pack-many : pixel_limit < length ps → Packed (refuses 14 0) out
-  unfolding Packed pack_outcome pack_output written
-  pack-many h = rw (lt-leb (length ps) pixel_limit h) (refl, refl)
-
   -- what the first pass said
-  pub measured : (n : ℕ) → Octets n ≡ size_of t ps → (all_within (least t) (greatest t) ps ≡ true) × (length (pack_byte_offset ps) ≡ n)
+  pub measured : (n : ℕ) → Some n ≡ size_of t ps → (all_within (least t) (greatest t) ps ≡ true) × (length (pack_byte_offset ps) ≡ n)
   unfolding size_of
   measured n e = go (all_within (least t) (greatest t) ps) e
     where
-      go : (c : Bool) → Octets n ≡ cond c (Octets (length (pack_byte_offset ps))) Outside → (c ≡ true) × (length (pack_byte_offset ps) ≡ n)
+      go : (c : Bool) → Some n ≡ cond c (Some (length (pack_byte_offset ps))) None → (c ≡ true) × (length (pack_byte_offset ps) ≡ n)
       go true q = let w : length (pack_byte_offset ps) ≡ n = cc in (refl, w)
-      go false q = let z : ◌≡◌ {A = ℕ} 0 1 = cc in absurd (omega arith)
+      go false q = let w : ⊥ = cc in absurd w
 
-  pub outside : Outside ≡ size_of t ps → all_within (least t) (greatest t) ps ≡ false
+  pub outside : None ≡ size_of t ps → all_within (least t) (greatest t) ps ≡ false
   unfolding size_of
   outside e = go (all_within (least t) (greatest t) ps) e
     where
-      go : (c : Bool) → Outside ≡ cond c (Octets (length (pack_byte_offset ps))) Outside → c ≡ false
-      go true q = let z : ◌≡◌ {A = ℕ} 0 1 = cc in absurd (omega arith)
+      go : (c : Bool) → None ≡ cond c (Some (length (pack_byte_offset ps))) None → c ≡ false
+      go true q = let w : ⊥ = cc in absurd w
       go false q = refl
 
-  pub pack-outside : length ps ≤ pixel_limit → Outside ≡ size_of t ps → Packed (refuses 14 0) out
+  pub pack-outside : length ps ≤ pixel_limit → None ≡ size_of t ps → Packed (refuses 14 0) out
   unfolding Packed pack_outcome pack_output written
   pack-outside h e = rw (le-leb (length ps) pixel_limit h, outside e) (refl, refl)
 
-  module _ (n : ℕ) (h : length ps ≤ pixel_limit) (e : Octets n ≡ size_of t ps) where
+  module _ (n : ℕ) (h : length ps ≤ pixel_limit) (e : Some n ≡ size_of t ps) where
     -- 14 is not given
     answer : pack_outcome t ps (length out) ≡ room_for (pack_byte_offset ps) (length out)
     unfolding pack_outcome
@@ -82,7 +89,7 @@ module _ (t : ElementType) (ps : List ℤ) (out : List ℕ) where
         let u = has_room (pack_byte_offset ps) out answer (sym (measured n e).1) r in (u.0, q ∙ u.1)
 
   -- where there is room for 15 octets a pixel
-  pub ample-size : all_within (least t) (greatest t) ps ≡ true → Octets (length (pack_byte_offset ps)) ≡ size_of t ps
+  pub ample-size : all_within (least t) (greatest t) ps ≡ true → Some (length (pack_byte_offset ps)) ≡ size_of t ps
   unfolding size_of
   ample-size e = rw e
 

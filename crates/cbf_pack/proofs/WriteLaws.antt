@@ -1,18 +1,19 @@
 -- Parts of a list of pixels, the last pixel of a part, and the octets of parts that follow each other. Assumes nothing.
-use Prim.Native.Nat.{ℕ, zero, suc, ◌<◌, ◌+◌, ◌*◌, ◌-◌, ◌%◌, ◌^◌, ◌≤◌}
+use Prim.Native.Nat.{ℕ, zero, suc, ◌<◌, ◌+◌, ◌*◌, ◌-◌, ◌/◌, ◌%◌, ◌^◌, ◌≤◌}
 use native.Mathlib.Omega.{arith}
 use mathlib.Core.List.{List, [], ◌∷◌, ◌++◌}
-use lib.ListN.{length, get_or, length-append}
+use lib.ListN.{length, take, drop, get_or, length-append, length-drop}
 use lib.IntN.{ℤ, pos, negsuc, nat_abs, ◌+ℤ◌, ◌-ℤ◌}
-use Rattle.cbf_pack.specs.Write.{Small, AllSmall, Writable, Wrote}
-use native.Mathlib.Nat.{mod-eq_of_lt, add-mod_right}
+use Rattle.std.proofs.lemmas.List.{get_or-take, get_or-drop, take-take}
+use Rattle.cbf_pack.specs.Write.{Small, AllSmall, Writable, WritableAll, InOneWindow, Wrote, WroteAll, WroteOver}
+use native.Mathlib.Nat.{mod-eq_of_lt, add-mod_right, div-add-mod'}
 use mathlib.Core.Path.{◌≡◌, refl, sym, ap, ap₂, ◌∙◌, subst}
-use lib.Seq.{sets, length-sets, take-length, set-set}
+use lib.Seq.{sets, length-sets, take-length, length-take-le, set-set}
 use lib.Signed.{mag}
 use mir.Syntax.{w64}
 use mir.Val.{to_z, of_z, SFits}
-use mir.Facts.{to_z_pos, to_z-of_z}
-use Rattle.cbf_pixels.specs.Octets.{bits}
+use mir.Facts.{to_z-of_z}
+use Rattle.cbf_pixels.specs.Octets.{octets, bits}
 use Rattle.cbf_pixels.specs.Pixels.{pack_difference, pack_from, pack_byte_offset}
 use Rattle.cbf_measure.specs.Window.{SameWindow, WindowRun}
 use Rattle.cbf_measure.specs.Measure.{part}
@@ -38,10 +39,6 @@ pub lifted-is : (d : ℤ) (size : ℕ) → nat_abs d < size → d +ℤ pos size 
 lifted-is (pos n) size h = refl
 lifted-is (negsuc n) size h = subℕ-pos size (suc n) (omega arith)
 
-pub lifted-lt : (d : ℤ) (size : ℕ) → nat_abs d < size → lifted d size < 2 * size
-lifted-lt (pos n) size h = omega arith
-lifted-lt (negsuc n) size h = omega arith
-
 pub lifted-bits : (d : ℤ) (size k : ℕ) → nat_abs d < size → size ≡ 256 ^ k → lifted d size % size ≡ bits k d
 unfolding bits
 lifted-bits (pos n) size k h e = add-mod_right n size ∙ mod-eq_of_lt h
@@ -49,15 +46,46 @@ lifted-bits (negsuc n) size k h e =
     let g : size - suc n < size = omega arith in
     mod-eq_of_lt g ∙ ap (λ (s : ℕ). s - suc n) e
 
--- the machine's sum
-pub lifted-sum : (d : ℤ) (size : ℕ) → SFits w64 d → size ≤ 2 ^ 32 → nat_abs d < size → to_z w64 (of_z w64 d) +ℤ to_z w64 size ≡ pos (lifted d size)
-lifted-sum d size f s h =
-    let k : size < 2 ^ 63 = omega arith in
-    ap₂ ◌+ℤ◌ (to_z-of_z {w = w64} f) (to_z_pos w64 k) ∙ lifted-is d size h
+-- ---- the low octets of a number
 
-pub bits-asks : (d : ℤ) (size : ℕ) → SFits w64 d → 0 < size → size ≤ 2 ^ 32 → nat_abs d < size → (0 < size)
-    × (size ≤ 2 ^ 32) × (nat_abs (to_z w64 (of_z w64 d)) < size)
-bits-asks d size f p s h = (p, s, subst (λ (z : ℤ). nat_abs z < size) (sym (to_z-of_z {w = w64} f)) h)
+-- the lowest octets of a number are those of its rest
+pub octets-block : (k a r : ℕ) → octets k (a * 256 ^ k + r) ≡ octets k r
+unfolding octets
+octets-block zero a r = refl
+octets-block (suc k) a r =
+    let p : 256 ^ suc k ≡ 256 * 256 ^ k = omega arith in
+    let e : a * 256 ^ suc k + r ≡ a * 256 ^ k * 256 + r = ap (λ (x : ℕ). a * x + r) p ∙ omega arith in
+    let u : (a * 256 ^ k * 256 + r) % 256 ≡ r % 256 = omega arith in
+    let v : (a * 256 ^ k * 256 + r) / 256 ≡ a * 256 ^ k + r / 256 = omega arith in
+    ap (octets (suc k)) e ∙ ap₂ (λ (x y : ℕ). x ∷ octets k y) u v ∙ ap (λ (l : List ℕ). r % 256 ∷ l) (octets-block k a (r / 256))
+
+pub octets-mod : (k n : ℕ) → octets k n ≡ octets k (n % 256 ^ k)
+octets-mod k n = ap (octets k) (sym (div-add-mod' n (256 ^ k))) ∙ octets-block k (n / 256 ^ k) (n % 256 ^ k)
+
+low-1 : (d : ℤ) → nat_abs d < 256 → bits 8 d % 256 ^ 1 ≡ bits 1 d
+unfolding bits
+low-1 (pos n) h = omega arith
+low-1 (negsuc n) h = omega arith
+
+low-2 : (d : ℤ) → nat_abs d < 65536 → bits 8 d % 256 ^ 2 ≡ bits 2 d
+unfolding bits
+low-2 (pos n) h = omega arith
+low-2 (negsuc n) h = omega arith
+
+low-4 : (d : ℤ) → nat_abs d < 4294967296 → bits 8 d % 256 ^ 4 ≡ bits 4 d
+unfolding bits
+low-4 (pos n) h = omega arith
+low-4 (negsuc n) h = omega arith
+
+-- the octets of a difference that a width holds are the lowest of its eight
+pub octets-1 : (d : ℤ) → nat_abs d < 256 → octets 1 (bits 8 d) ≡ octets 1 (bits 1 d)
+octets-1 d h = octets-mod 1 (bits 8 d) ∙ ap (octets 1) (low-1 d h)
+
+pub octets-2 : (d : ℤ) → nat_abs d < 65536 → octets 2 (bits 8 d) ≡ octets 2 (bits 2 d)
+octets-2 d h = octets-mod 2 (bits 8 d) ∙ ap (octets 2) (low-2 d h)
+
+pub octets-4 : (d : ℤ) → nat_abs d < 4294967296 → octets 4 (bits 8 d) ≡ octets 4 (bits 4 d)
+octets-4 d h = octets-mod 4 (bits 8 d) ∙ ap (octets 4) (low-4 d h)
 
 -- ---- a difference in its form, written
 
@@ -144,37 +172,37 @@ wrote_as {ps} {k} {n} {last} {out} {at} w e f g =
       after = g ∙ w.after ∙ ap (λ (m : ℕ). at + length (pack_from last (part ps k m))) (sym e);
     }
 
--- ---- one pixel: the machine's difference of the pixel at i and the one before, which is held as a word
+-- ---- one pixel: the machine's difference of the pixel at i and the one before, as the machine holds them
 
-abbrev pub gap : List ℤ → ℕ → ℕ → ℤ
-gap ps i word = to_z w64 (of_z w64 (get_or ps i (pos 0))) -ℤ to_z w64 word
+abbrev pub gap : List ℤ → ℕ → ℤ → ℤ
+gap ps i prev = to_z w64 (of_z w64 (get_or ps i (pos 0))) -ℤ prev
 
 pub small_word : (z : ℤ) → Small z → to_z w64 (of_z w64 z) ≡ z
 small_word z h = let m = mag-le z in to_z-of_z {w = w64} (record { sfits = omega arith })
 
-module _ (word : ℕ) {ps : List ℤ} {i : ℕ} {out : List ℕ} {at : ℕ} (w : Writable ps i 1 (to_z w64 word) out at) where
-  pub gap_is : gap ps i word ≡ get_or ps i (pos 0) -ℤ to_z w64 word
-  gap_is = ap (λ (z : ℤ). z -ℤ to_z w64 word) (small_word (get_or ps i (pos 0)) (small_at ps i w.small (omega (arith, w.pixels))))
+module _ (prev : ℤ) {ps : List ℤ} {i : ℕ} {out : List ℕ} {at : ℕ} (w : Writable ps i 1 prev out at) where
+  pub gap_is : gap ps i prev ≡ get_or ps i (pos 0) -ℤ prev
+  gap_is = ap (λ (z : ℤ). z -ℤ prev) (small_word (get_or ps i (pos 0)) (small_at ps i w.small (omega (arith, w.pixels))))
 
-  pub gap-fits : SFits w64 (gap ps i word)
+  pub gap-fits : SFits w64 (gap ps i prev)
   gap-fits =
       let z = get_or ps i (pos 0) in
       let h : nat_abs z < 2 ^ 33 = small_at ps i w.small (omega (arith, w.pixels)) in
-      let m = mag-sub z (to_z w64 word) {H = 2 ^ 33} (omega (arith, mag-le z)) (omega (arith, mag-le (to_z w64 word), w.before)) in
+      let m = mag-sub z prev {H = 2 ^ 33} (omega (arith, mag-le z)) (omega (arith, mag-le prev, w.before)) in
       record { sfits = subst (λ (y : ℤ). mag y < 2 ^ 63) (sym gap_is) (omega arith) }
 
-  pub gap_word : to_z w64 (of_z w64 (gap ps i word)) ≡ get_or ps i (pos 0) -ℤ to_z w64 word
+  pub gap_word : to_z w64 (of_z w64 (gap ps i prev)) ≡ get_or ps i (pos 0) -ℤ prev
   gap_word = to_z-of_z {w = w64} gap-fits ∙ gap_is
 
-  gap-octets : pack_from (to_z w64 word) (part ps i 1) ≡ pack_difference (to_z w64 (of_z w64 (gap ps i word)))
-  gap-octets = pack_one (to_z w64 word) ps i (omega (arith, w.pixels)) ∙ ap pack_difference (sym gap_word)
+  gap-octets : pack_from prev (part ps i 1) ≡ pack_difference (to_z w64 (of_z w64 (gap ps i prev)))
+  gap-octets = pack_one prev ps i (omega (arith, w.pixels)) ∙ ap pack_difference (sym gap_word)
 
-  pub gap-room : at + length (pack_difference (to_z w64 (of_z w64 (gap ps i word)))) ≤ length out
+  pub gap-room : at + length (pack_difference (to_z w64 (of_z w64 (gap ps i prev)))) ≤ length out
   gap-room = subst (λ (l : List ℕ). at + length l ≤ length out) gap-octets w.room
 
   pub gap-wrote : {out' : List ℕ} {next : ℕ}
-      → (next ≡ at + length (pack_difference (to_z w64 (of_z w64 (gap ps i word)))))
-      × (out' ≡ sets out at (pack_difference (to_z w64 (of_z w64 (gap ps i word))))) → Wrote ps i 1 (to_z w64 word) out at
+      → (next ≡ at + length (pack_difference (to_z w64 (of_z w64 (gap ps i prev)))))
+      × (out' ≡ sets out at (pack_difference (to_z w64 (of_z w64 (gap ps i prev))))) → Wrote ps i 1 prev out at
       out' next
   gap-wrote e =
       record {
@@ -182,7 +210,7 @@ module _ (word : ℕ) {ps : List ℤ} {i : ℕ} {out : List ℕ} {at : ℕ} (w :
         after = e.0 ∙ ap (λ (l : List ℕ). at + length l) (sym gap-octets);
       }
 
--- a small pixel before, held as a word
+-- a small pixel before, as the machine holds it
 pub writable-word : {ps : List ℤ} {k n : ℕ} {last : ℤ} {out : List ℕ} {at : ℕ} → Writable ps k n last out at → Writable ps k n (to_z w64 (of_z w64 last)) out at
 writable-word {ps} {k} {n} {last} {out} {at} w = subst (λ (z : ℤ). Writable ps k n z out at) (sym (small_word last w.before)) w
 
@@ -190,43 +218,43 @@ pub wrote-word : {ps : List ℤ} {k n : ℕ} {last : ℤ} {out : List ℕ} {at :
     → Wrote ps k n (to_z w64 (of_z w64 last)) out at out' next → Wrote ps k n last out at out' next
 wrote-word {ps} {k} {n} {last} {out} {at} {out'} {next} h w = subst (λ (z : ℤ). Wrote ps k n z out at out' next) (small_word last h) w
 
--- ---- the first j of n pixels written; the last of them is held as a word
+-- ---- the first j of n pixels written; prev is the last of them
 
-pub record Upto (ps : List ℤ) (k n : ℕ) (last : ℤ) (out : List ℕ) (at j : ℕ) (out' : List ℕ) (word next : ℕ) : Type 0 where
+pub record Upto (ps : List ℤ) (k n : ℕ) (last : ℤ) (out : List ℕ) (at j : ℕ) (out' : List ℕ) (prev : ℤ) (next : ℕ) : Type 0 where
   pub few : j ≤ n
-  pub held : to_z w64 word ≡ last_of last (part ps k j)
+  pub held : prev ≡ last_of last (part ps k j)
   pub wrote : Wrote ps k j last out at out' next
 
-pub upto-none : {ps : List ℤ} {k n : ℕ} {last : ℤ} {out : List ℕ} {at word next : ℕ} → to_z w64 word ≡ last → next ≡ at → Upto ps k n last out at 0 out word next
+pub upto-none : {ps : List ℤ} {k n : ℕ} {last : ℤ} {out : List ℕ} {at : ℕ} {prev : ℤ} {next : ℕ} → prev ≡ last → next ≡ at → Upto ps k n last out at 0 out prev next
 unfolding last_of
-upto-none {ps} {k} {n} {last} {out} {at} {word} {next} e q =
+upto-none {ps} {k} {n} {last} {out} {at} {prev} {next} e q =
     record { few = omega arith; held = e; wrote = wrote_none ps k last out at next q }
 
 -- all of them
-pub upto_all : {ps : List ℤ} {k n : ℕ} {last : ℤ} {out : List ℕ} {at j : ℕ} {out' : List ℕ} {word next : ℕ}
-    → Upto ps k n (to_z w64 (of_z w64 last)) out at j out' word next → Small last → n ≤ j → Wrote ps k n last out at
+pub upto_all : {ps : List ℤ} {k n : ℕ} {last : ℤ} {out : List ℕ} {at j : ℕ} {out' : List ℕ} {prev : ℤ} {next : ℕ}
+    → Upto ps k n (to_z w64 (of_z w64 last)) out at j out' prev next → Small last → n ≤ j → Wrote ps k n last out at
     out' next
-upto_all {ps} {k} {n} {last} {out} {at} {j} {out'} {word} {next} u h l =
+upto_all {ps} {k} {n} {last} {out} {at} {j} {out'} {prev} {next} u h l =
     let e : n ≡ j = omega (arith, u.few) in
     wrote-word h (wrote_as u.wrote e refl refl)
 
 module _ {ps : List ℤ} {k n : ℕ} {last : ℤ} {out : List ℕ} {at : ℕ} (w : Writable ps k n last out at) {j : ℕ}
-    {out' : List ℕ} {word next : ℕ} (u : Upto ps k n last out at j out' word next) (m i : ℕ) (e : i ≡ k + j)
+    {out' : List ℕ} {prev : ℤ} {next : ℕ} (u : Upto ps k n last out at j out' prev next) (m i : ℕ) (e : i ≡ k + j)
     (l : j + m ≤ n) where
   -- the next m have room
-  pub upto-writable : Writable ps i m (to_z w64 word) out' next
+  pub upto-writable : Writable ps i m prev out' next
   upto-writable =
-      subst (λ (r : ℕ). Writable ps r m (to_z w64 word) out' next) (sym e)
+      subst (λ (r : ℕ). Writable ps r m prev out' next) (sym e)
       (subst (λ (z : ℤ). Writable ps (k + j) m z out' next) (sym u.held) (writable_then ps k last out at n j m out' next w l u.wrote))
 
   -- and are written
-  pub upto-more : (i' : ℕ) {out'' : List ℕ} {next' : ℕ} → i' + 1 ≡ k + (j + m) → 0 < m → Wrote ps i m (to_z w64 word)
-      out' next out'' next' → Upto ps k n last out at (j + m) out'' (of_z w64 (get_or ps i' (pos 0))) next'
+  pub upto-more : (i' : ℕ) {out'' : List ℕ} {next' : ℕ} → i' + 1 ≡ k + (j + m) → 0 < m → Wrote ps i m prev
+      out' next out'' next' → Upto ps k n last out at (j + m) out'' (to_z w64 (of_z w64 (get_or ps i' (pos 0)))) next'
   upto-more i' {out''} {next'} e' p v =
       let h = w.pixels in
       let v' : Wrote ps (k + j) m (last_of last (part ps k j)) out' next out'' next' =
       subst (λ (z : ℤ). Wrote ps (k + j) m z out' next out'' next') u.held
-      (subst (λ (r : ℕ). Wrote ps r m (to_z w64 word) out' next out'' next') e v) in
+      (subst (λ (r : ℕ). Wrote ps r m prev out' next out'' next') e v) in
       record {
         few = l;
         held = small_word (get_or ps i' (pos 0)) (small_at ps i' w.small (omega arith)) ∙ sym (last-at last ps k (j + m) i' e' (omega arith) (omega arith));
@@ -234,13 +262,13 @@ module _ {ps : List ℤ} {k n : ℕ} {last : ℤ} {out : List ℕ} {at : ℕ} (w
       }
 
 -- the next pixel, where the call of put_difference ensured what it wrote
-pub upto-one : {ps : List ℤ} {k n : ℕ} {last : ℤ} {out : List ℕ} {at j : ℕ} {out' : List ℕ} {word next : ℕ}
-    → Writable ps k n last out at → Upto ps k n last out at j out' word next
+pub upto-one : {ps : List ℤ} {k n : ℕ} {last : ℤ} {out : List ℕ} {at j : ℕ} {out' : List ℕ} {prev : ℤ} {next : ℕ}
+    → Writable ps k n last out at → Upto ps k n last out at j out' prev next
     → (i : ℕ) → i ≡ k + j → j + 1 ≤ n → {out'' : List ℕ} {next' : ℕ}
-    → (next' ≡ next + length (pack_difference (to_z w64 (of_z w64 (gap ps i word)))))
-    × (out'' ≡ sets out' next (pack_difference (to_z w64 (of_z w64 (gap ps i word)))))
-    → Upto ps k n last out at (j + 1) out'' (of_z w64 (get_or ps i (pos 0))) next'
-upto-one {word = word} w u i e l p = upto-more w u 1 i e l i (omega arith) (omega arith) (gap-wrote word (upto-writable w u 1 i e l) p)
+    → (next' ≡ next + length (pack_difference (to_z w64 (of_z w64 (gap ps i prev)))))
+    × (out'' ≡ sets out' next (pack_difference (to_z w64 (of_z w64 (gap ps i prev)))))
+    → Upto ps k n last out at (j + 1) out'' (to_z w64 (of_z w64 (get_or ps i (pos 0)))) next'
+upto-one {prev = prev} w u i e l p = upto-more w u 1 i e l i (omega arith) (omega arith) (gap-wrote prev (upto-writable w u 1 i e l) p)
 
 -- ---- n pixels in the window of last
 
@@ -296,11 +324,11 @@ module _ {ps : List ℤ} {k : ℕ} {last : ℤ} {n : ℕ} (v : InWindow ps k las
       ≡ sets out at (pack_from last (part ps k n)) → next ≡ at + n → Wrote ps k n last out at out' next
   window-wrote e q = record { octets = e; after = omega (arith, window-length n (omega arith)) }
 
-  module _ {out : List ℕ} {at j : ℕ} {out' : List ℕ} {word next : ℕ} (u : Upto ps k n last out at j out' word next) where
-    pub upto-near : j < n → nat_abs (get_or ps (k + j) (pos 0) -ℤ to_z w64 word) < 128
+  module _ {out : List ℕ} {at j : ℕ} {out' : List ℕ} {prev : ℤ} {next : ℕ} (u : Upto ps k n last out at j out' prev next) where
+    pub upto-near : j < n → nat_abs (get_or ps (k + j) (pos 0) -ℤ prev) < 128
     upto-near l = subst (λ (z : ℤ). nat_abs (get_or ps (k + j) (pos 0) -ℤ z) < 128) (sym u.held) (window-gap j l)
 
-    pub upto-window : (m : ℕ) → j + m ≤ n → m % 32 ≡ 0 → InWindow ps (k + j) (to_z w64 word) m
+    pub upto-window : (m : ℕ) → j + m ≤ n → m % 32 ≡ 0 → InWindow ps (k + j) prev m
     unfolding SameWindow
     upto-window m l r =
         subst (λ (z : ℤ). InWindow ps (k + j) z m) (sym u.held)
@@ -340,3 +368,92 @@ all-wrote {ps} {out} {at} w = (
   w.octets
       ∙ ap (λ (l : List ℤ). sets out at (pack_from (pos 0) l)) (take-length ps),
 )
+
+-- ---- a slice of pixels
+
+small-drop : (k : ℕ) (ps : List ℤ) → AllSmall ps → AllSmall (drop k ps)
+small-drop zero ps a = a
+small-drop (suc k) [] a = tt
+small-drop (suc k) (p ∷ ps) a = small-drop k ps a.1
+
+small-take : (n : ℕ) (ps : List ℤ) → AllSmall ps → AllSmall (take n ps)
+small-take zero ps a = tt
+small-take (suc n) [] a = tt
+small-take (suc n) (p ∷ ps) a = (a.0, small-take n ps a.1)
+
+pub part-all : (ps : List ℤ) (n : ℕ) → length ps ≡ n → part ps 0 n ≡ ps
+part-all ps n e = ap (λ (j : ℕ). take j ps) (sym e) ∙ take-length ps
+
+-- a list as its n pixels
+pub writable-as : {ps : List ℤ} {last : ℤ} {out : List ℕ} {at : ℕ} → WritableAll ps last out at → (n : ℕ) → length ps ≡ n → Writable ps 0 n last out at
+writable-as {ps} {last} {out} {at} w n e = subst (λ (m : ℕ). Writable ps 0 m last out at) e w
+
+pub window-as : {ps : List ℤ} {last : ℤ} → InOneWindow ps last → (n : ℕ) → length ps ≡ n → InWindow ps 0 last n
+window-as {ps} {last} v n e = subst (λ (m : ℕ). InWindow ps 0 last m) e (record { small = v.small; before = v.before; run = v.run })
+
+-- the n pixels from k on
+module _ (ps : List ℤ) (k : ℕ) {n : ℕ} (m : ℕ) (e : m ≡ n) (h : k + n ≤ length ps) where
+  slice-is : part (take m (drop k ps)) 0 (length (take m (drop k ps))) ≡ part ps k n
+  slice-is = take-length (take m (drop k ps)) ∙ ap (λ (j : ℕ). take j (drop k ps)) e
+
+  pub slice-long : length (take m (drop k ps)) ≡ n
+  slice-long = length-take-le m (drop k ps) (omega (arith, length-drop k ps)) ∙ e
+
+  pub slice-writable : {last : ℤ} {out : List ℕ} {at : ℕ} → Writable ps k n last out at → WritableAll (take m (drop k ps)) last out at
+  slice-writable {last} {out} {at} w =
+      record {
+        small = small-take m (drop k ps) (small-drop k ps w.small);
+        before = w.before;
+        pixels = omega arith;
+        room = subst (λ (l : List ℤ). at + length (pack_from last l) ≤ length out) (sym slice-is) w.room;
+      }
+
+  pub slice-wrote : {last : ℤ} {out : List ℕ} {at : ℕ} {out' : List ℕ} {next : ℕ} → WroteAll (take m (drop k ps)) last out at out' next
+      → Wrote ps k n last out at out' next
+  slice-wrote {last} {out} {at} w =
+      record {
+        octets = w.octets ∙ ap (λ (l : List ℤ). sets out at (pack_from last l)) slice-is;
+        after = w.after ∙ ap (λ (l : List ℤ). at + length (pack_from last l)) slice-is;
+      }
+
+  pub slice-window : {last : ℤ} → InWindow ps k last n → InOneWindow (take m (drop k ps)) last
+  slice-window {last} v =
+      record {
+        small = small-take m (drop k ps) (small-drop k ps v.small);
+        before = v.before;
+        run =
+            record {
+              same =
+                  λ j l.
+                  let g : j < m = omega (arith, slice-long) in
+                  let q : get_or ps (k + j) (pos 0) ≡ get_or (take m (drop k ps)) j (pos 0)
+                  = sym (get_or-take m (drop k ps) j (pos 0) g ∙ get_or-drop k ps j (pos 0)) in
+                  let z : j ≡ 0 + j = omega arith in
+                  subst (λ (i : ℕ). SameWindow (get_or (take m (drop k ps)) i (pos 0)) last) z
+                  (subst (λ (y : ℤ). SameWindow y last) q (v.run.same j (omega arith)));
+              inside = omega arith;
+              blocks = omega (arith, slice-long, v.run.blocks);
+            };
+      }
+
+  pub slice-octets : (last : ℤ) (out out' : List ℕ) (at : ℕ) → out' ≡ sets out at (pack_from last (take m (drop k ps))) → out'
+      ≡ sets out at (pack_from last (part ps k n))
+  slice-octets last out out' at q = q ∙ ap (λ (j : ℕ). sets out at (pack_from last (take j (drop k ps)))) e
+
+-- the first n of m pixels from k on
+pub rest-over : (ps : List ℤ) (k m : ℕ) {n : ℕ} {last : ℤ} {out : List ℕ} {at : ℕ} {out' : List ℕ} {next limit : ℕ} → n ≤ m
+    → WroteOver (take m (drop k ps)) 0 n last out at out' next limit → WroteOver ps k n last out at out' next limit
+rest-over ps k m {n} {last} {out} {at} h w =
+    let e : part (take m (drop k ps)) 0 n ≡ part ps k n = take-take n m (drop k ps) h in
+    record {
+      clean = w.clean;
+      wrote =
+          record {
+            octets = w.wrote.octets ∙ ap (λ (l : List ℤ). sets out at (pack_from last l)) e;
+            after = w.wrote.after ∙ ap (λ (l : List ℤ). at + length (pack_from last l)) e;
+          };
+      behind = w.behind;
+      few = w.few;
+      seven = w.seven;
+      is = w.is;
+    }

@@ -1,7 +1,18 @@
 -- The octets of differences of which many are wide. Nothing here is part of what the public calls promise.
-use Rattle.std.specs.Prelude.{ℕ, zero, suc, ◌+◌, ◌*◌, ◌≤◌, ◌≡◌, List, ◌++◌, length, ℤ}
+use Rattle.std.specs.Prelude.{ℕ, zero, suc, ◌+◌, ◌*◌, ◌≤◌, ◌≡◌, List, [], ◌∷◌, ◌++◌, length, ℤ}
 use Rattle.std.proofs.lemmas.List.Edits.{sets}
 use Rattle.cbf_pixels.specs.Pixels as P
+use Rattle.cbf_pack.specs.declared.dense.Forms.{Forms}
+
+-- of differences of one, three and seven octets: by how many bits the number is moved up, the escapes before it, and
+-- the length
+abbrev pub packing_forms : Forms
+packing_forms =
+    record {
+      shift = 0 ∷ 8 ∷ 24 ∷ [];
+      escapes = 0 ∷ 128 ∷ 8388736 ∷ [];
+      length = 1 ∷ 3 ∷ 7 ∷ [];
+    }
 
 -- one difference in a store of at least eight octets
 pub record PutOver (d : ℤ) (out : List ℕ) (at : ℕ) (out' : List ℕ) (next : ℕ) : Type 0 where

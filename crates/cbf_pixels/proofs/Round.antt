@@ -5,7 +5,8 @@ use mathlib.Core.Path.{◌≡◌, refl, sym, ap, ◌∙◌, subst}
 use mathlib.Core.Logic.{◌↔◌}
 use mathlib.Core.List.{List, [], ◌∷◌, ◌++◌}
 use mathlib.Core.Bool.{Bool, true, false, cond}
-use mathlib.Core.Option.{Option, none, some, map}
+use Rattle.std.specs.Prelude.{Option, None, Some}
+use Rattle.std.specs.Prelude.{option_map}
 use lib.Dec.{ltb, lit<}
 use lib.ListN.{length, length-append}
 use lib.IntN.{ℤ, pos, nat_abs, ◌+ℤ◌, ◌-ℤ◌}
@@ -32,7 +33,7 @@ next-pack lo hi z p os h k w =
     rw (read-pack (1 ∷ 2 ∷ 4 ∷ 8 ∷ []) (p -ℤ z) os f, there z p, w)
 
 pub from-pack : (lo hi z : ℤ) (ps : List ℤ) → mag lo < 2 ^ 33 → mag hi < 2 ^ 33 → mag z < 2 ^ 33 → all_within lo hi ps
-    ≡ true → unpack_from lo hi z (length ps) (pack_from z ps) ≡ some ps
+    ≡ true → unpack_from lo hi z (length ps) (pack_from z ps) ≡ Some ps
 unfolding unpack_from pack_from all_within within
 from-pack lo hi z [] l g h a = refl
 from-pack lo hi z (p ∷ ps) l g h a =
@@ -41,7 +42,7 @@ from-pack lo hi z (p ∷ ps) l g h a =
     let k = between (2 ^ 33) lo hi p l g (cond-left (le_z lo p) (le_z p hi) w) (cond-right (le_z lo p) (le_z p hi) w) in
     rw (next-pack lo hi z p (pack_from p ps) h k w, from-pack lo hi p ps l g k a')
 
-pub unpack-pack : (t : ElementType) (ps : List ℤ) → all_within (least t) (greatest t) ps ≡ true → unpack_byte_offset t (length ps) (pack_byte_offset ps) ≡ some ps
+pub unpack-pack : (t : ElementType) (ps : List ℤ) → all_within (least t) (greatest t) ps ≡ true → unpack_byte_offset t (length ps) (pack_byte_offset ps) ≡ Some ps
 unfolding unpack_byte_offset pack_byte_offset
 unpack-pack t ps a = from-pack (least t) (greatest t) (pos 0) ps (least-small t) (greatest-small t) (lit< tt) a
 
@@ -53,10 +54,10 @@ pub record Again (lo hi z : ℤ) (n : ℕ) (os : List ℕ) (ps : List ℤ) : Typ
   pub count : length ps ≡ n
   pub inside : all_within lo hi ps ≡ true
 
-no-some : {X : Type 0} {A : Type 0} {a : A} → none ≡ some a → X
+no-some : {X : Type 0} {A : Type 0} {a : A} → None ≡ Some a → X
 no-some e = let z : ◌≡◌ {A = ℕ} 0 1 = cc in let y : ⊥ = omega arith in absurd y
 
-pub again : (lo hi z : ℤ) (n : ℕ) (os : List ℕ) (ps : List ℤ) → Octets os → unpack_from lo hi z n os ≡ some ps → Again lo hi z n os ps
+pub again : (lo hi z : ℤ) (n : ℕ) (os : List ℕ) (ps : List ℤ) → Octets os → unpack_from lo hi z n os ≡ Some ps → Again lo hi z n os ps
 unfolding unpack_from pack_from all_within next_pixel follow add_difference pack_difference widths
 again lo hi z zero [] ps r e =
     let q : [] ≡ ps = cc in
@@ -66,10 +67,10 @@ again lo hi z (suc n) os ps r e =
     go (λ p l qs rl h. again lo hi p n l qs rl h) (read_by (1 ∷ 2 ∷ 4 ∷ 8 ∷ []) os) refl e
   where
     at : (d : ℤ) (rest : List ℕ) → Least (pack_difference d) rest os → within lo hi (z +ℤ d) ≡ true
-        → (q : Option (List ℤ)) → ((qs : List ℤ) → q ≡ some qs → Again lo hi (z +ℤ d) n rest qs)
-        → map (λ (l : List ℤ). (z +ℤ d) ∷ l) q ≡ some ps → Again lo hi z (suc n) os ps
-    at d rest L w none k e' = no-some e'
-    at d rest L w (some qs) k e' =
+        → (q : Option (List ℤ)) → ((qs : List ℤ) → q ≡ Some qs → Again lo hi (z +ℤ d) n rest qs)
+        → option_map (λ (l : List ℤ). (z +ℤ d) ∷ l) q ≡ Some ps → Again lo hi z (suc n) os ps
+    at d rest L w None k e' = no-some e'
+    at d rest L w (Some qs) k e' =
         let A = k qs refl in
         let q : (z +ℤ d) ∷ qs ≡ ps = cc in
         let lf = L.few in
@@ -86,16 +87,16 @@ again lo hi z (suc n) os ps r e =
           inside = rw w A.inside;
         })
 
-    in-range : ((p : ℤ) (l : List ℕ) (qs : List ℤ) → Octets l → unpack_from lo hi p n l ≡ some qs → Again lo hi p n l
+    in-range : ((p : ℤ) (l : List ℕ) (qs : List ℤ) → Octets l → unpack_from lo hi p n l ≡ Some qs → Again lo hi p n l
         qs) → (d : ℤ) (rest : List ℕ) → Least (pack_difference d) rest os → (b : Bool) → within lo hi (z +ℤ d) ≡ b
-        → follow (cond b (pixel (z +ℤ d) rest) fails) (λ p l. unpack_from lo hi p n l) ≡ some ps → Again lo hi z (suc n) os ps
+        → follow (cond b (pixel (z +ℤ d) rest) fails) (λ p l. unpack_from lo hi p n l) ≡ Some ps → Again lo hi z (suc n) os ps
     in-range ih d rest L true w e' =
         at d rest L w (unpack_from lo hi (z +ℤ d) n rest) (λ qs h. ih (z +ℤ d) rest qs L.rest_octets h) e'
     in-range ih d rest L false w e' = no-some e'
 
-    go : ((p : ℤ) (l : List ℕ) (qs : List ℤ) → Octets l → unpack_from lo hi p n l ≡ some qs → Again lo hi p n l qs)
+    go : ((p : ℤ) (l : List ℕ) (qs : List ℤ) → Octets l → unpack_from lo hi p n l ≡ Some qs → Again lo hi p n l qs)
         → (a : Read) → read_by (1 ∷ 2 ∷ 4 ∷ 8 ∷ []) os ≡ a → follow (add_difference lo hi z a) (λ p l. unpack_from lo hi
-        p n l) ≡ some ps → Again lo hi z (suc n) os ps
+        p n l) ≡ Some ps → Again lo hi z (suc n) os ps
     go ih run_out h e' = no-some e'
     go ih (got d rest) h e' =
         in-range ih d rest (read-least (1 ∷ 2 ∷ 4 ∷ 8 ∷ []) d rest os (lit< tt, (lit< tt, (lit< tt, (lit< tt, tt)))) r h) (within lo hi (z +ℤ d)) refl e'
@@ -120,7 +121,7 @@ unfolding pack_from pack_difference
 packed-octets z [] = no_octet
 packed-octets z (p ∷ ps) = octets-append (packed-by widths (p -ℤ z)) (packed-octets p ps)
 
-pub repack : (t : ElementType) (n : ℕ) (os : List ℕ) (ps : List ℤ) → Octets os → unpack_byte_offset t n os ≡ some ps → (pack_byte_offset ps ≡ os) ↔ Shortest t n os
+pub repack : (t : ElementType) (n : ℕ) (os : List ℕ) (ps : List ℤ) → Octets os → unpack_byte_offset t n os ≡ Some ps → (pack_byte_offset ps ≡ os) ↔ Shortest t n os
 unfolding unpack_byte_offset pack_byte_offset Shortest
 repack t n os ps r e = (to, from)
   where
@@ -137,8 +138,8 @@ repack t n os ps r e = (to, from)
     from : ((os' : List ℕ) → Octets os' → unpack_from (least t) (greatest t) (pos 0) n os' ≡ unpack_from (least t)
         (greatest t) (pos 0) n os → length os ≤ length os') → pack_from (pos 0) ps ≡ os
     from s =
-        let back_to : unpack_from (least t) (greatest t) (pos 0) n (pack_from (pos 0) ps) ≡ some ps =
-        subst (λ (m : ℕ). unpack_from (least t) (greatest t) (pos 0) m (pack_from (pos 0) ps) ≡ some ps) A.count
+        let back_to : unpack_from (least t) (greatest t) (pos 0) n (pack_from (pos 0) ps) ≡ Some ps =
+        subst (λ (m : ℕ). unpack_from (least t) (greatest t) (pos 0) m (pack_from (pos 0) ps) ≡ Some ps) A.count
         (unpack-pack t ps A.inside) in
         let h = s (pack_from (pos 0) ps) (packed-octets (pos 0) ps) (back_to ∙ sym e) in
         let f = A.few in

@@ -1,7 +1,7 @@
 -- P1 to P12: single pixels, each packed, and unpacked again.
 use Prim.Native.Nat.{ℕ}
 use mathlib.Core.Path.{◌≡◌, refl}
-use mathlib.Core.Option.{some}
+use Rattle.std.specs.Prelude.{Some}
 use mathlib.Core.List.{List, [], ◌∷◌}
 use lib.IntN.{ℤ, pos, negsuc}
 use Rattle.cbf_pixels.specs.declared.ElementType.{ElementType}
@@ -41,7 +41,7 @@ table =
 abbrev pub Holds : List Case → Type 0
 Holds [] = Unit {0}
 Holds (c ∷ cs) = (pack_byte_offset c.pixels ≡ c.octets) × (unpack_byte_offset c.type (lib.ListN.length c.pixels)
-    c.octets ≡ some c.pixels) × Holds cs
+    c.octets ≡ Some c.pixels) × Holds cs
 
 pub table-holds : Holds table
 unfolding pack_byte_offset unpack_byte_offset

@@ -4,7 +4,8 @@ use native.Mathlib.Omega.{arith}
 use mathlib.Core.Path.{◌≡◌, refl, sym, ap, ap₂, ◌∙◌}
 use mathlib.Core.List.{List, [], ◌∷◌, ◌++◌}
 use mathlib.Core.Bool.{Bool, true, false, cond}
-use mathlib.Core.Option.{Option, none, some, map}
+use Rattle.std.specs.Prelude.{Option, None, Some}
+use Rattle.std.specs.Prelude.{option_map}
 use lib.Dec.{leb}
 use lib.ListN.{length, take, drop, length-append, take-append-drop}
 use lib.Seq.{take_at, drop_at}
@@ -50,7 +51,7 @@ module _ (k : ℕ) where
   numbered false n h = refl
 
   -- written and read
-  pub read-written : (s : Bool) (ps : List ℤ) → AllHold s k ps → read_pixels s k (length ps) (write_pixels k ps) ≡ some ps
+  pub read-written : (s : Bool) (ps : List ℤ) → AllHold s k ps → read_pixels s k (length ps) (write_pixels k ps) ≡ Some ps
   unfolding read_pixels write_pixels
   read-written s [] h = refl
   read-written s (p ∷ ps) h =
@@ -67,7 +68,7 @@ module _ (k : ℕ) where
       )
 
   -- read and written
-  pub written_read : (s : Bool) (n : ℕ) (os : List ℕ) (ps : List ℤ) → Octets os → read_pixels s k n os ≡ some ps → write_pixels k ps ≡ os
+  pub written_read : (s : Bool) (n : ℕ) (os : List ℕ) (ps : List ℤ) → Octets os → read_pixels s k n os ≡ Some ps → write_pixels k ps ≡ os
   unfolding read_pixels write_pixels
   written_read s zero [] ps r e = let q : [] ≡ ps = cc in ap (write_pixels k) (sym q)
   written_read s zero (o ∷ os) ps r e = let z : ◌≡◌ {A = ℕ} 0 1 = cc in absurd (omega arith)
@@ -76,15 +77,15 @@ module _ (k : ℕ) where
       p : ℤ
       p = pixel_of s k (number (take k os))
 
-      go : (b : Bool) → leb k (length os) ≡ b → (o : Option (List ℤ)) → ((qs : List ℤ) → o ≡ some qs → write_pixels k qs ≡ drop k os)
-          → cond b (map (λ (qs : List ℤ). p ∷ qs) o) none ≡ some ps → write_pixels k ps ≡ os
-      go true h (some qs) ih e' =
+      go : (b : Bool) → leb k (length os) ≡ b → (o : Option (List ℤ)) → ((qs : List ℤ) → o ≡ Some qs → write_pixels k qs ≡ drop k os)
+          → cond b (option_map (λ (qs : List ℤ). p ∷ qs) o) None ≡ Some ps → write_pixels k ps ≡ os
+      go true h (Some qs) ih e' =
           let q : p ∷ qs ≡ ps = cc in
           ap (write_pixels k) (sym q)
           ∙ ap₂ ◌++◌ (ap (octets k) (numbered s (number (take k os)) (taken-lt k (leb-true k (length os) h) r))
           ∙ octets-taken k (leb-true k (length os) h) r) (ih qs refl)
           ∙ take-append-drop k os
-      go true h none ih e' = let z : ◌≡◌ {A = ℕ} 0 1 = cc in absurd (omega arith)
+      go true h None ih e' = let z : ◌≡◌ {A = ℕ} 0 1 = cc in absurd (omega arith)
       go false h o ih e' = let z : ◌≡◌ {A = ℕ} 0 1 = cc in absurd (omega arith)
 
 -- ---- the six types
@@ -141,10 +142,10 @@ all_hold t (p ∷ ps) e = (
 )
 
 pub unpack-pack : (t : ElementType) (ps : List ℤ) → all_within (least t) (greatest t) ps ≡ true → unpack_uncompressed t
-    (length ps) (pack_uncompressed t ps) ≡ some ps
+    (length ps) (pack_uncompressed t ps) ≡ Some ps
 unfolding unpack_uncompressed pack_uncompressed
 unpack-pack t ps e = read-written (octets_per t) (is_signed t) ps (all_hold t ps e)
 
-pub pack-unpack : (t : ElementType) (n : ℕ) (os : List ℕ) (ps : List ℤ) → Octets os → unpack_uncompressed t n os ≡ some ps → pack_uncompressed t ps ≡ os
+pub pack-unpack : (t : ElementType) (n : ℕ) (os : List ℕ) (ps : List ℤ) → Octets os → unpack_uncompressed t n os ≡ Some ps → pack_uncompressed t ps ≡ os
 unfolding unpack_uncompressed pack_uncompressed
 pack-unpack t n os ps r e = written_read (octets_per t) (is_signed t) n os ps r e

@@ -1,6 +1,6 @@
 -- What packing and unpacking answer, and what they leave in the lent output.
 use Rattle.std.specs.Prelude.{ℕ, List, [], Bool, true, false, cond, leb, length, ℤ}
-use Rattle.std.proofs.Math.Option.{Option, none, some}
+use Rattle.std.specs.Prelude.{Option, None, Some}
 use Rattle.cbf_pixels.specs.Pixels.{least, greatest, all_within, pack_byte_offset, unpack_byte_offset}
 use Rattle.cbf_pixels.specs.Uncompressed.{unpack_uncompressed}
 use Rattle.cbf_pixels.specs.declared.ElementType.{ElementType}
@@ -29,12 +29,12 @@ unpack_pixels Uncompressed t n os = unpack_uncompressed t n os
 unpack_pixels ByteOffset t n os = unpack_byte_offset t n os
 
 unfoldable pub is_some : Option (List ℤ) → Bool
-is_some none = false
-is_some (some ps) = true
+is_some None = false
+is_some (Some ps) = true
 
 unfoldable pub pixels_of : Option (List ℤ) → List ℤ
-pixels_of none = []
-pixels_of (some ps) = ps
+pixels_of None = []
+pixels_of (Some ps) = ps
 
 -- 13, also for more pixels than a section may have, then 15, each at 0: octets alone have no place in a file
 unfoldable pub unpack_outcome : Compression → ElementType → ℕ → List ℕ → ℕ → Outcome

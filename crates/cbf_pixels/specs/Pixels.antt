@@ -1,6 +1,7 @@
 -- Byte-offset pixels: what octets stand for, and the octets that packing writes. Document 01, "Pixels".
 use Rattle.std.specs.Prelude.{ℕ, zero, suc, ◌≤◌, ◌≡◌, List, [], ◌∷◌, ◌++◌, Bool, true, false, cond, ltb, leb, eqb, length, take, drop, ℤ, pos, negsuc, nat_abs, ◌+ℤ◌, ◌-ℤ◌}
-use Rattle.std.proofs.Math.Option.{Option, none, some, map}
+use Rattle.std.specs.Prelude.{Option, None, Some}
+use Rattle.std.specs.Prelude.{option_map}
 use Rattle.std.specs.Int.Signed.{le_z}
 use Rattle.cbf_pixels.specs.Octets.{number, octets, half, signed, bits, Octets}
 use Rattle.cbf_pixels.specs.declared.ElementType.{ElementType}
@@ -83,14 +84,14 @@ unfolding add_difference read_by widths
 next_pixel lo hi z os = add_difference lo hi z (read_by widths os)
 
 unfoldable pub follow : Next → (ℤ → List ℕ → Option (List ℤ)) → Option (List ℤ)
-follow fails go = none
-follow (pixel p os) go = map (λ (ps : List ℤ). p ∷ ps) (go p os)
+follow fails go = None
+follow (pixel p os) go = option_map (λ (ps : List ℤ). p ∷ ps) (go p os)
 
 -- the n pixels after z
 unfoldable pub unpack_from : ℤ → ℤ → ℤ → ℕ → List ℕ → Option (List ℤ)
 unfolding next_pixel follow
-unpack_from lo hi z zero [] = some []
-unpack_from lo hi z zero (o ∷ os) = none
+unpack_from lo hi z zero [] = Some []
+unpack_from lo hi z zero (o ∷ os) = None
 unpack_from lo hi z (suc n) os = follow (next_pixel lo hi z os) (λ p rest. unpack_from lo hi p n rest)
 
 unfoldable pub unpack_byte_offset : ElementType → ℕ → List ℕ → Option (List ℤ)

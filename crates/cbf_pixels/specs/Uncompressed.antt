@@ -1,6 +1,7 @@
 -- Uncompressed pixels. Document 01, "Pixels": "Uncompressed: little-endian, two's complement."
 use Rattle.std.specs.Prelude.{ℕ, zero, suc, List, [], ◌∷◌, ◌++◌, Bool, true, false, cond, leb, length, take, drop, ℤ, pos}
-use Rattle.std.proofs.Math.Option.{Option, none, some, map}
+use Rattle.std.specs.Prelude.{Option, None, Some}
+use Rattle.std.specs.Prelude.{option_map}
 use Rattle.cbf_pixels.specs.Octets.{number, octets, signed, bits}
 use Rattle.cbf_pixels.specs.declared.ElementType.{ElementType}
 use Rattle.cbf_pixels.specs.declared.ElementType.TheVariants.{U8, S8, U16, S16, U32, S32}
@@ -30,10 +31,10 @@ pixel_of s k n = cond s (signed k n) (pos n)
 -- n pixels of k octets each: fails if octets run out or remain
 unfoldable pub read_pixels : Bool → ℕ → ℕ → List ℕ → Option (List ℤ)
 unfolding pixel_of number
-read_pixels s k zero [] = some []
-read_pixels s k zero (o ∷ os) = none
+read_pixels s k zero [] = Some []
+read_pixels s k zero (o ∷ os) = None
 read_pixels s k (suc n) os =
-    cond (leb k (length os)) (map (λ (ps : List ℤ). pixel_of s k (number (take k os)) ∷ ps) (read_pixels s k n (drop k os))) none
+    cond (leb k (length os)) (option_map (λ (ps : List ℤ). pixel_of s k (number (take k os)) ∷ ps) (read_pixels s k n (drop k os))) None
 
 unfoldable pub write_pixels : ℕ → List ℤ → List ℕ
 unfolding octets bits

@@ -1,19 +1,22 @@
 -- What follows the empty line after a section's headers, at a place of the file, in either transfer encoding. Assumes
 -- nothing.
-use mathlib.Core.Path.{◌≡◌, refl, sym, ap, ◌∙◌, subst}
-use mathlib.Core.Bool.{Bool, true, false}
-use mathlib.Core.List.{List, []}
+use mathlib.Core.Path.{◌≡◌, refl, sym, ap, ◌∙◌}
+use Rattle.std.specs.Prelude.{Option, None, Some, Result, Ok, Err, nat_eq}
+use mathlib.Core.Bool.{Bool, true, false, ◌&&◌, cond}
+use mathlib.Core.List.{List, [], ◌∷◌}
 use Prim.Native.Nat.{ℕ, ◌+◌, ◌-◌, ◌≤◌, ◌<◌}
 use native.Mathlib.Omega.{arith}
-use borrow.Author.Tests.{le-leb, lt-leb}
+use borrow.Author.Tests.{le-leb, lt-leb, eq-eqb, ne_eqb, eqb-true, eqb-false}
+use lib.Dec.{leb, eqb}
+use Rattle.std.proofs.lemmas.List.{take_rest}
+use Rattle.std.specs.List.{starts_with}
 use lib.ListN.{length, take, drop, length-drop}
-use lib.Seq.{slice, drop-drop}
+use lib.Seq.{drop-drop}
 use Rattle.cbf_walk.specs.Parsers.{Res, bad, cut, ok, Parser, ret, plus, screen, blame, then, bind}
 use Rattle.cbf_walk.proofs.ParserLaws.{Unbound, ok-val, unbind, unblame}
 use Rattle.cbf_format.specs.Text.{same}
 use Rattle.cbf_format.specs.Lines.{exactly, literal, semicolon_line}
 use Rattle.cbf_format.specs.declared.Encoding.{Encoding}
-use Rattle.cbf_format.specs.declared.Encoding.TheVariants.{Binary, Base64}
 use Rattle.cbf_format.specs.Base64.{Letters, letters}
 use Rattle.cbf_format.specs.Sections.{closing, marker, closed, closed_after, binary_data, good_text, text_closed}
 use Rattle.cbf_format.specs.Sections.{base64_data, data_for}
@@ -22,82 +25,119 @@ use Rattle.cbf_format.proofs.LineTame.{unoctets}
 use Rattle.cbf_format.proofs.Base64Laws.{Plains}
 use Rattle.cbf_format.proofs.SectionTame.{binary_of, base64_of, letters-tame, data_for-tame}
 use Rattle.cbf_format.proofs.SectionLaws.{word_count, letters-end, data-says}
-use Rattle.cbf_lines.specs.declared.closing.Next.{Next}
 use Rattle.cbf_lines.specs.declared.closing.Ending.{Ending}
-use Rattle.cbf_lines.specs.declared.closing.Ending.TheVariants.{Wrong, Span}
 use Rattle.cbf_reader.specs.declared.data.Data.{Data}
-use Rattle.cbf_reader.specs.declared.data.Data.TheVariants.{Refused, CutOff, At}
+use Rattle.cbf_format.specs.declared.Stop.{Stop}
+use Rattle.cbf_format.specs.declared.Stop.TheVariants.{Refused, CutOff}
 use Rattle.cbf_lines.specs.Closing.{next_at, closed_at}
-use Rattle.cbf_reader.specs.Data.{data_at, is_text}
-use Rattle.cbf_answers.specs.declared.Refusal.{Refusal}
+use Rattle.cbf_reader.specs.Data.{data_at}
 use Rattle.cbf_base64.specs.declared.base64.Groups.{Groups}
 use Rattle.cbf_base64.specs.declared.base64_text.Base64Text.{Base64Text}
 use Rattle.cbf_base64.specs.Base64.{groups_from, groups_of, groups_hold}
-use Rattle.cbf_base64.specs.Base64Text.{letters_at, FewOfText}
+use Rattle.cbf_base64.specs.Base64Text.{letters_at}
 use Rattle.cbf_base64.proofs.Base64Laws.{held-decodes, not-held-sized, groups-of}
 use Rattle.cbf_base64.proofs.Base64TextLaws.{letters-plain}
-use Rattle.cbf_lines.proofs.ClosingLaws.{no_place_lem, same_place, word-short, word_at}
 use Rattle.cbf_format.specs.Sections as S
-use Rattle.cbf_lines.specs.declared.closing.Next.TheVariants as N
-use Rattle.cbf_base64.specs.declared.base64_text.Base64Text.TheVariants as T
 
 -- ---- BINARY
 
+eqb-turned : (x y : ℕ) → eqb x y ≡ eqb y x
+eqb-turned x y = go (eqb x y) refl
+  where
+    go : (t : Bool) → eqb x y ≡ t → t ≡ eqb y x
+    go true p = sym (eq-eqb y x (sym (eqb-true x y p)))
+    go false p = sym (ne_eqb y x (λ e. eqb-false x y p (sym e)))
+
+pub same-turned : (xs ys : List ℕ) → same xs ys ≡ same ys xs
+same-turned [] [] = refl
+same-turned [] (y ∷ ys) = refl
+same-turned (x ∷ xs) [] = refl
+same-turned (x ∷ xs) (y ∷ ys) = (λ i. eqb-turned x y i && same-turned xs ys i)
+
+-- whether bytes start with a word, by the library's test
+starts-same : (w s : List ℕ) → starts_with nat_eq s w ≡ same w (take (length w) s)
+starts-same [] s = refl
+starts-same (x ∷ w) [] = refl
+starts-same (x ∷ w) (y ∷ s) = ap (λ (b : Bool). eqb x y && b) (starts-same w s)
+
+module _ (at : ℕ) (w s : List ℕ) where
+  front : {b : Bool} → starts_with nat_eq s w ≡ b → same (take (length w) s) w ≡ b
+  front e = same-turned (take (length w) s) w ∙ sym (starts-same w s) ∙ e
+
+  not-there : starts_with nat_eq s w ≡ false → None ≡ next_at at (literal w s)
+  unfolding literal exactly
+  not-there e = go (leb (length w) (length s))
+    where
+      go : (b : Bool) → None
+          ≡ next_at at (screen (λ t. cond (same t w) None (Some (9, 0))) (cond b (ok (take (length w) s) (length w)) (bad 9 (length s))))
+      go true = rw (front e)
+      go false = refl
+
+  there-at : length w ≤ length s → starts_with nat_eq s w ≡ true → Some (at + length w) ≡ next_at at (literal w s)
+  unfolding literal exactly
+  there-at h e = rw (le-leb (length w) (length s) h, front e)
+
+-- 8 or 9, at a place
+abbrev pub refused_at : ℕ → ℕ → Result Data Stop
+refused_at k p = Err (Refused (record { number = k; place = p }))
+
 -- the data of a section whose first octet is at `first`, by what stands after its octets
-abbrev pub closed_data : ℕ → ℕ → Ending → Data
-closed_data first after Wrong = Refused (record { number = 9; place = after })
-closed_data first after (Span to next) = At first to next
+abbrev pub closed_data : ℕ → ℕ → Option Ending → Result Data Stop
+closed_data first after None = refused_at 9 after
+closed_data first after (Some e) = Ok (record { first = first; to = e.to; next = e.next })
 
 -- the marker, the octets, their closing
 module _ (file : List ℕ) (limit size at : ℕ) where
   after_marker : List ℕ → Parser S.Data
   after_marker m = bind (exactly size) (closed_after limit size)
 
-  unmarked : N.Missing ≡ next_at at (literal marker (drop at file)) → Refused (record { number = 8; place = at })
-      ≡ data_at at (binary_data limit size (drop at file))
+  unmarked : None ≡ next_at at (literal marker (drop at file)) → refused_at 8 at ≡ data_at at (binary_data limit size (drop at file))
   unfolding binary_data after_marker
   unmarked e = go (literal marker (drop at file)) e
     where
-      here : Refused (record { number = 8; place = at }) ≡ Refused (record { number = 8; place = at + 0 })
-      here = let z : at ≡ at + 0 = omega arith in ap (λ (p : ℕ). Refused (record { number = 8; place = p })) z
+      here : refused_at 8 at ≡ refused_at 8 (at + 0)
+      here = let z : at ≡ at + 0 = omega arith in ap (refused_at 8) z
 
-      go : (r : Res (List ℕ)) → N.Missing ≡ next_at at r → Refused (record { number = 8; place = at }) ≡ data_at at (then (blame 8 r) after_marker (drop at file))
+      go : (r : Res (List ℕ)) → None ≡ next_at at r → refused_at 8 at ≡ data_at at (then (blame 8 r) after_marker (drop at file))
       go (bad k p) e = here
       go cut e = here
-      go (ok t n) e = absurd (no_place_lem (sym e))
+      go (ok t n) e = absurd cc
 
-  pub binary-short : length file - at < 4 → Refused (record { number = 8; place = at }) ≡ data_at at (binary_data limit size (drop at file))
-  binary-short h = unmarked (word-short marker file at h)
+  -- the bytes start with the marker, as the code takes them
+  abbrev starts : Bool
+  starts = starts_with nat_eq (take (length file - at) (drop at file)) marker
+
+  starting : {b : Bool} → starts ≡ b → starts_with nat_eq (drop at file) marker ≡ b
+  starting e = ap (λ (l : List ℕ). starts_with nat_eq l marker) (sym (take_rest file at)) ∙ e
+
+  pub binary-unmarked : starts ≡ false → refused_at 8 at ≡ data_at at (binary_data limit size (drop at file))
+  binary-unmarked e = unmarked (not-there at marker (drop at file) (starting e))
 
   module _ {first : ℕ} (h : first ≡ at + 4) (k : first ≤ length file) where
-    pub binary-other : same (slice at first file) marker ≡ false → Refused (record { number = 8; place = at })
-        ≡ data_at at (binary_data limit size (drop at file))
-    binary-other e = unmarked (word_at marker file at first h k false e)
-
-    module _ (there : same (slice at first file) marker ≡ true) where
+    module _ (there : starts ≡ true) where
       marked : data_at at (plus 4 (after_marker [] (drop first file))) ≡ data_at at (binary_data limit size (drop at file))
       unfolding binary_data after_marker
-      marked = go (literal marker (drop at file)) (word_at marker file at first h k true there)
+      marked = go (literal marker (drop at file)) (ap Some h ∙ there-at at marker (drop at file) (omega (arith, length-drop at file)) (starting there))
         where
-          go : (r : Res (List ℕ)) → N.At first ≡ next_at at r → data_at at (plus 4 (after_marker [] (drop first file)))
+          go : (r : Res (List ℕ)) → Some first ≡ next_at at r → data_at at (plus 4 (after_marker [] (drop first file)))
               ≡ data_at at (then (blame 8 r) after_marker (drop at file))
-          go (bad k p) e = absurd (no_place_lem e)
-          go cut e = absurd (no_place_lem e)
+          go (bad k p) e = absurd cc
+          go cut e = absurd cc
           go (ok t n) e =
-              let z : first ≡ at + n = same_place e in
+              let z : first ≡ at + n = cc in
               let q : n ≡ 4 = omega arith in
               rw (q, drop-drop 4 at file, ← h)
 
-      pub binary-few : length file - first < size → Refused (record { number = 9; place = length file }) ≡ data_at at (binary_data limit size (drop at file))
+      pub binary-few : length file - first < size → refused_at 9 (length file) ≡ data_at at (binary_data limit size (drop at file))
       unfolding exactly after_marker
       binary-few l = go (drop first file) (length-drop first file) ∙ marked
         where
-          go : (s : List ℕ) → length s ≡ length file - first → Refused (record { number = 9; place = length file }) ≡ data_at at (plus 4 (after_marker [] s))
+          go : (s : List ℕ) → length s ≡ length file - first → refused_at 9 (length file) ≡ data_at at (plus 4 (after_marker [] s))
           go s q =
               let z : length file ≡ at + (4 + length s) = omega arith in
-              rw (lt-leb size (length s) (omega arith)) (ap (λ (p : ℕ). Refused (record { number = 9; place = p })) z)
+              rw (lt-leb size (length s) (omega arith)) (ap (refused_at 9) z)
 
-      pub binary-closed : {after : ℕ} → after ≡ first + size → after ≤ length file → (r : Ending) → r ≡ closed_at after (closed limit (drop after file))
+      pub binary-closed : {after : ℕ} → after ≡ first + size → after ≤ length file → (r : Option Ending) → r ≡ closed_at after (closed limit (drop after file))
           → closed_data first after r ≡ data_at at (binary_data limit size (drop at file))
       unfolding exactly after_marker
       binary-closed {after} a l r q = ap (closed_data first after) q ∙ whole ∙ marked
@@ -107,8 +147,8 @@ module _ (file : List ℕ) (limit size at : ℕ) where
 
           go : (os s : List ℕ) (c : Res ℕ)
               → closed_data first after (closed_at after c) ≡ data_at at (plus 4 (plus size (then (blame 9 c) (λ n. ret (binary_of size os n)) s)))
-          go os s (bad k p) = ap (λ (p : ℕ). Refused (record { number = 9; place = p })) wrong
-          go os s cut = ap (λ (p : ℕ). Refused (record { number = 9; place = p })) wrong
+          go os s (bad k p) = ap (refused_at 9) wrong
+          go os s cut = ap (refused_at 9) wrong
           go os s (ok n m) =
               let x : after + n ≡ at + (4 + size + n) = omega arith in
               let y : after + m ≡ at + (4 + (size + (m + 0))) = omega arith in
@@ -150,134 +190,107 @@ binary-octets limit size s d n e = go (unbind (λ s. blame 8 (literal marker s))
 -- ---- BASE64
 
 -- the data of a section whose text is at `at` and decodes, by what stands after its closing boundary
-abbrev pub closed_text : ℕ → ℕ → Next → Data
-closed_text at close N.Missing = Refused (record { number = 9; place = close })
-closed_text at close (N.At next) = At at (close + 31) next
-
-no_text : {r : Refusal} {g : Groups} {i j : ℕ} → T.Refused r ≡ T.Closed g i j → ⊥
-no_text e = let z : ◌≡◌ {A = ℕ} 0 1 = cc in omega arith
-
-not-refused : {r : Refusal} → T.Refused r ≡ T.CutOff → ⊥
-not-refused e = let z : ◌≡◌ {A = ℕ} 0 1 = cc in omega arith
-
-not-closed : {g : Groups} {i j : ℕ} → T.CutOff ≡ T.Closed g i j → ⊥
-not-closed e = let z : ◌≡◌ {A = ℕ} 0 1 = cc in omega arith
-
--- a closed text has no more symbols than a file has bytes
-pub few-closed : {t : Base64Text} {g : Groups} {close after : ℕ} → t ≡ T.Closed g close after → FewOfText t → (g.letters ≤ file_limit) × (g.pads ≤ file_limit)
-few-closed {t} e h = let k = subst FewOfText e h in (omega (arith, k), omega (arith, k))
+abbrev pub closed_text : ℕ → ℕ → Option ℕ → Result Data Stop
+closed_text at close None = refused_at 9 close
+closed_text at close (Some next) = Ok (record { first = at; to = close + 31; next = next })
 
 module _ (file : List ℕ) (limit size at : ℕ) where
   abbrev found : Res Letters
   found = letters limit closing file_limit 0 (drop at file)
 
-  pub base64-refused : {r : Refusal} → T.Refused r ≡ letters_at at at (groups_of []) found → Refused r ≡ data_at at (base64_data limit size (drop at file))
+  pub base64-stopped : {s : Stop} → Err s ≡ letters_at at at (groups_of []) found → Err s ≡ data_at at (base64_data limit size (drop at file))
   unfolding base64_data
-  base64-refused {r} e = go found e
+  base64-stopped {s} e = go found e
     where
-      go : (x : Res Letters) → T.Refused r ≡ letters_at at at (groups_of []) x → Refused r
+      go : (x : Res Letters) → Err s ≡ letters_at at at (groups_of []) x → Err s
           ≡ data_at at (text_closed limit (screen (good_text size) x) (drop at file))
-      go (bad k p) e = let z : r ≡ record { number = k; place = at + p } = cc in ap Refused z
-      go cut e = absurd (not-refused e)
-      go (ok l n) e = absurd (no_text e)
-
-  pub base64-cut : T.CutOff ≡ letters_at at at (groups_of []) found → CutOff ≡ data_at at (base64_data limit size (drop at file))
-  unfolding base64_data
-  base64-cut e = go found e
-    where
-      go : (x : Res Letters) → T.CutOff ≡ letters_at at at (groups_of []) x → CutOff ≡ data_at at (text_closed limit (screen (good_text size) x) (drop at file))
-      go (bad k p) e = absurd (not-refused (sym e))
-      go cut e = refl
-      go (ok l n) e = absurd (not-closed e)
+      go (bad k p) e = let z : s ≡ Refused (record { number = k; place = at + p }) = cc in ap Err z
+      go cut e = let z : s ≡ CutOff = cc in ap Err z
+      go (ok l n) e = absurd cc
 
   -- the letters of a text that is closed
-  record Found (g : Groups) (close after : ℕ) : Type 0 where
+  record Found (t : Base64Text) : Type 0 where
     text : Letters
     count : ℕ
     is : found ≡ ok text count
-    groups : g ≡ groups_of text.symbols
-    place : close ≡ at + text.closing
-    next : after ≡ at + count
+    groups : t.groups ≡ groups_of text.symbols
+    place : t.closing ≡ at + text.closing
+    next : t.next ≡ at + count
 
-  module _ {g : Groups} {close after : ℕ} (e : T.Closed g close after ≡ letters_at at at (groups_of []) found) where
-    letters-found : Found g close after
+  module _ (t : Base64Text) (e : Ok t ≡ letters_at at at (groups_of []) found) where
+    letters-found : Found t
     letters-found = go found refl e
       where
-        go : (x : Res Letters) → found ≡ x → T.Closed g close after ≡ letters_at at at (groups_of []) x → Found g close after
-        go (bad k p) q e = absurd (no_text (sym e))
-        go cut q e = absurd (not-closed (sym e))
+        go : (x : Res Letters) → found ≡ x → Ok t ≡ letters_at at at (groups_of []) x → Found t
+        go (bad k p) q e = absurd cc
+        go cut q e = absurd cc
         go (ok l n) q e =
-            let z : g ≡ groups_from (groups_of []) l.symbols = cc in
-            record { text = l; count = n; is = q; groups = z ∙ sym (groups-of l.symbols); place = cc; next = cc }
+            let z : t ≡ record { groups = groups_from (groups_of []) l.symbols; closing = at + l.closing; next = at + n } = cc in
+            record {
+              text = l;
+              count = n;
+              is = q;
+              groups = ap (λ (x : Base64Text). x.groups) z ∙ sym (groups-of l.symbols);
+              place = ap (λ (x : Base64Text). x.closing) z;
+              next = ap (λ (x : Base64Text). x.next) z;
+            }
 
     plain : Plains letters-found.text.symbols
     plain = let f = letters-found in letters-plain limit closing file_limit 0 (drop at file) f.text f.count f.is
 
-    pub base64-bounds : at ≤ length file → (close ≤ after) × (after ≤ length file)
+    pub base64-bounds : at ≤ length file → (t.closing ≤ t.next) × (t.next ≤ length file)
     base64-bounds h =
         let f = letters-found in
         let l = letters-end limit closing file_limit 0 (drop at file) f.text f.count f.is in
         let w = (letters-tame limit closing file_limit 0).within (drop at file) f.text f.count f.is in
         (omega (arith, f.place, f.next, l.place, l.sum), omega (arith, f.next, w, length-drop at file))
 
-    pub base64-wrong : groups_hold g size ≡ false → Refused (record { number = 10; place = close }) ≡ data_at at (base64_data limit size (drop at file))
+    pub base64-wrong : groups_hold t.groups size ≡ false → refused_at 10 t.closing ≡ data_at at (base64_data limit size (drop at file))
     unfolding base64_data
     base64-wrong h =
         let f = letters-found in
-        ap (λ (p : ℕ). Refused (record { number = 10; place = p })) f.place
+        ap (refused_at 10) f.place
         ∙ rw (f.is, not-held-sized size plain (ap (λ (x : Groups). groups_hold x size) (sym f.groups) ∙ h))
 
-    pub base64-closed : groups_hold g size ≡ true → (r : Next) → r ≡ next_at after (semicolon_line limit (drop after file))
-        → closed_text at close r ≡ data_at at (base64_data limit size (drop at file))
+    pub base64-closed : groups_hold t.groups size ≡ true → (r : Option ℕ) → r ≡ next_at t.next (semicolon_line limit (drop t.next file))
+        → closed_text at t.closing r ≡ data_at at (base64_data limit size (drop at file))
     unfolding base64_data
     base64-closed h r q =
         let f = letters-found in
         let d = held-decodes size plain (ap (λ (x : Groups). groups_hold x size) (sym f.groups) ∙ h) in
-        ap (closed_text at close) q ∙ rw (f.is, d.fits, drop-drop f.count at file, ← f.next)
-        (go f.text f.count f.place f.next (semicolon_line limit (drop after file)))
+        ap (closed_text at t.closing) q ∙ rw (f.is, d.fits, drop-drop f.count at file, ← f.next)
+        (go f.text f.count f.place f.next (semicolon_line limit (drop t.next file)))
       where
-        go : (l : Letters) (n : ℕ) → close ≡ at + l.closing → after ≡ at + n → (x : Res (List ℕ))
-            → closed_text at close (next_at after x) ≡ data_at at (S.blame_at 9 l.closing (plus n (then x (λ e. ret (base64_of l)) (drop after file))))
-        go l n p a (bad j i) = ap (λ (k : ℕ). Refused (record { number = 9; place = k })) p
-        go l n p a cut = ap (λ (k : ℕ). Refused (record { number = 9; place = k })) p
-        go l n p a (ok t m) =
-            let x : close + 31 ≡ at + (l.closing + 31) = omega arith in
-            let y : after + m ≡ at + (n + (m + 0)) = omega arith in
+        go : (l : Letters) (n : ℕ) → t.closing ≡ at + l.closing → t.next ≡ at + n → (x : Res (List ℕ))
+            → closed_text at t.closing (next_at t.next x) ≡ data_at at (S.blame_at 9 l.closing (plus n (then x (λ e. ret (base64_of l)) (drop t.next file))))
+        go l n p a (bad j i) = ap (refused_at 9) p
+        go l n p a cut = ap (refused_at 9) p
+        go l n p a (ok w m) =
+            let x : t.closing + 31 ≡ at + (l.closing + 31) = omega arith in
+            let y : t.next + m ≡ at + (n + (m + 0)) = omega arith in
             let z : at ≡ at + 0 = omega arith in
-            ap (λ (k : ℕ). At k (close + 31) (after + m)) z ∙ ap (λ (k : ℕ). At (at + 0) k (after + m)) x ∙ ap (At (at + 0) (at + (l.closing + 31))) y
+            (λ i. Ok (record { first = z i; to = x i; next = y i }))
 
 -- ---- either encoding
 
--- the data, by whether they are text
-abbrev pub data_by : Bool → ℕ → ℕ → Parser S.Data
-data_by true limit size = base64_data limit size
-data_by false limit size = binary_data limit size
-
-pub by-text : (limit size at : ℕ) (s : List ℕ) (e : Encoding) {b : Bool} {r : Data} → b ≡ is_text e → r
-    ≡ data_at at (data_by b limit size s) → r ≡ data_at at (data_for limit e size s)
-by-text limit size at s e q h = h ∙ ap (λ (b : Bool). data_at at (data_by b limit size s)) q ∙ go e
-  where
-    go : (e : Encoding) → data_at at (data_by (is_text e) limit size s) ≡ data_at at (data_for limit e size s)
-    go Binary = refl
-    go Base64 = refl
-
 -- the first octet is before the span's end, that before the next line, and all in the file
-pub record Within (file : List ℕ) (first end next : ℕ) : Type 0 where
-  pub low : first ≤ end
-  pub high : end ≤ next
-  pub inside : next ≤ length file
+pub record Within (file : List ℕ) (d : Data) : Type 0 where
+  pub low : d.first ≤ d.to
+  pub high : d.to ≤ d.next
+  pub inside : d.next ≤ length file
 
-pub data-bounds : (file : List ℕ) (limit : ℕ) (e : Encoding) (size at : ℕ) {first end next : ℕ} → at ≤ length file
-    → At first end next ≡ data_at at (data_for limit e size (drop at file)) → Within file first end next
-data-bounds file limit e size at {first} {end} {next} h q = go (data_for limit e size (drop at file)) refl q
+pub data-bounds : (file : List ℕ) (limit : ℕ) (e : Encoding) (size at : ℕ) (d : Data) → at ≤ length file
+    → Ok d ≡ data_at at (data_for limit e size (drop at file)) → Within file d
+data-bounds file limit e size at d h q = go (data_for limit e size (drop at file)) refl q
   where
-    go : (r : Res S.Data) → data_for limit e size (drop at file) ≡ r → At first end next ≡ data_at at r → Within file first end next
-    go (bad k p) i q = absurd (let z : ◌≡◌ {A = ℕ} 0 1 = cc in omega arith)
-    go cut i q = absurd (let z : ◌≡◌ {A = ℕ} 0 1 = cc in omega arith)
-    go (ok d n) i q =
-        let s = data-says limit e size (drop at file) d n i in
-        let w = (data_for-tame limit e size).within (drop at file) d n i in
-        let a : first ≡ at + d.lead = cc in
-        let b : end ≡ at + d.width = cc in
-        let c : next ≡ at + n = cc in
+    go : (r : Res S.Data) → data_for limit e size (drop at file) ≡ r → Ok d ≡ data_at at r → Within file d
+    go (bad k p) i q = absurd cc
+    go cut i q = absurd cc
+    go (ok x n) i q =
+        let s = data-says limit e size (drop at file) x n i in
+        let w = (data_for-tame limit e size).within (drop at file) x n i in
+        let z : d ≡ record { first = at + x.lead; to = at + x.width; next = at + n } = cc in
+        let a : d.first ≡ at + x.lead = ap (λ (y : Data). y.first) z in
+        let b : d.to ≡ at + x.width = ap (λ (y : Data). y.to) z in
+        let c : d.next ≡ at + n = ap (λ (y : Data). y.next) z in
         record { low = omega (arith, a, b, s.lead); high = omega (arith, b, c, s.closes.sum); inside = omega (arith, c, w, length-drop at file) }

@@ -11,7 +11,8 @@ use lib.ListN.{length, length-append}
 use Rattle.cbf_answers.specs.declared.Refusal.{Refusal}
 use Rattle.cbf_answers.specs.Limits.{file_limit}
 use Rattle.cbf_format.specs.Listing.{Placed, sections}
-use Rattle.cbf_reader.specs.Walk.{whole, start_cursor, ReadTo, SectionOf, NextSays, end_of}
+use Rattle.cbf_reader.specs.Walk.{whole, start_cursor, ReadTo, SectionOf, NextSays, opened_at, end_of}
+use Rattle.std.specs.Prelude.{Option, None, Some, Result, Ok, Err}
 use Rattle.cbf_reader.specs.WholeFile.{FoundAt}
 use Rattle.cbf_reader.specs.declared.whole_file.SectionFound.{SectionFound}
 use Rattle.cbf_reader.specs.declared.step.Cursor.{Cursor}
@@ -19,7 +20,6 @@ use Rattle.cbf_format.specs.declared.Section.{Section}
 use Rattle.cbf_reader.specs.declared.step.Field.{Field}
 use Rattle.cbf_reader.specs.declared.step.Field.TheVariants.{Outside}
 use Rattle.cbf_reader.specs.declared.walk.NextSection.{NextSection}
-use Rattle.cbf_reader.specs.declared.walk.NextSection.TheVariants.{Refused, End, Found}
 use Rattle.cbf_reader.proofs.SectionCounts.{sections-append, sections-lines, sections-found}
 use Rattle.cbf_reader.proofs.WalkLaws.{come-start, come-length, walked_start, walk_end}
 use Rattle.cbf_format.specs.Sections as S
@@ -60,7 +60,7 @@ module _ {limit : ℕ} {file : List ℕ} {c : Cursor} (k : LoopAt limit file c) 
   abbrev pub AllRead : Type 0
   AllRead = (its : F.Tree) × (whole limit file ≡ good its) × (sections 0 its ≡ sections 0 k.done)
 
-  ended : NextSays limit file k.done End → AllRead
+  ended : NextSays limit file k.done (Ok None) → AllRead
   ended says = (k.done ++ says.0, says.1, sections-lines k.done says.0 says.2)
 
   pub loop-count : c.count ≡ length (sections 0 k.done)
@@ -77,26 +77,28 @@ module _ {limit : ℕ} {file : List ℕ} {c : Cursor} (k : LoopAt limit file c) 
   pub loop-past : 0 < length file → length file ≤ c.at → AllRead
   loop-past some_byte past =
       let w = walked_start limit file c k.come.ready k.done k.come in
-      ended (subst (λ (f : Field). NextSays limit file k.done (end_of f)) (k.outside (omega arith))
+      ended (subst (λ (f : Field). NextSays limit file k.done (end_of (opened_at f))) (k.outside (omega arith))
       (walk_end limit file c k.come.ready past k.done w.0 w.1 w.2))
 
   -- what reading on from the cursor gave
-  module _ {r : NextSection} (says : (done : F.Tree) → ReadTo limit file done c → NextSays limit file done r) where
-    told : {x : NextSection} → r ≡ x → NextSays limit file k.done x
+  module _ {r : Result (Option NextSection) Refusal} (says : (done : F.Tree) → ReadTo limit file done c → NextSays limit file done r) where
+    told : {x : Result (Option NextSection) Refusal} → r ≡ x → NextSays limit file k.done x
     told is = subst (NextSays limit file k.done) is (says k.done k.come)
 
-    pub loop-refused : {q : Refusal} → r ≡ Refused q → whole limit file ≡ refused q.number q.place
+    pub loop-refused : {q : Refusal} → r ≡ Err q → whole limit file ≡ refused q.number q.place
     loop-refused is = told is
 
-    pub loop-end : r ≡ End → AllRead
+    pub loop-end : r ≡ Ok None → AllRead
     loop-end is = ended (told is)
 
-    module _ {s : Section} {d : Cursor} (is : r ≡ Found s d) where
-      -- the cursor moved on
-      pub loop-onward : c.at < length file → length file - d.at < length file - c.at
-      loop-onward more = omega (arith, come-length limit file k.come, (told is).7)
+    module _ {n : NextSection} (is : r ≡ Ok (Some n)) where
+      -- the cursor moved on in the file
+      pub loop-onward : length file - n.after.at < length file - c.at
+      loop-onward =
+          let f = told is in
+          omega (arith, come-length limit file k.come, f.7, f.8.ready.at_in)
 
-      pub loop-more : LoopMore k s d
+      pub loop-more : LoopMore k n.section n.after
       loop-more =
           let f = told is in
           let p : Placed = record { boundary = length (flat (k.done ++ f.0)); section = f.2 } in

@@ -1,6 +1,6 @@
 -- The sections of items, and that the state counts them. Assumes nothing.
 use mathlib.Core.Path.{◌≡◌, refl, sym, ap, ◌∙◌}
-use mathlib.Core.Option.{Option, none, some}
+use Rattle.std.specs.Prelude.{Option, None, Some}
 use mathlib.Core.List.{List, [], ◌∷◌, ◌++◌, append_assoc, append-nil}
 use Prim.Native.Nat.{ℕ, suc, ◌+◌}
 use native.Mathlib.Omega.{arith}
@@ -21,8 +21,8 @@ length-sections (it ∷ its) at at' = go it.info (sections (at + length it.bytes
     (at' + length it.bytes))
   where
     go : (o : Option S.Section) (l l' : List Placed) → length l ≡ length l' → length (add_placed at o l) ≡ length (add_placed at' o l')
-    go none l l' e = e
-    go (some i) l l' e = ap suc e
+    go None l l' e = e
+    go (Some i) l l' e = ap suc e
 
 -- the sections of items, and those of the items after them
 pub sections-append : (a b : F.Tree) (at : ℕ) → sections at (a ++ b) ≡ sections at a ++ sections (at + length (flat a)) b
@@ -34,8 +34,8 @@ sections-append (it ∷ a) b at =
     ∙ go it.info (sections (at + length it.bytes) a) (sections (at + length (it.bytes ++ flat a)) b)
   where
     go : (o : Option S.Section) (l m : List Placed) → add_placed at o (l ++ m) ≡ add_placed at o l ++ m
-    go none l m = refl
-    go (some i) l m = refl
+    go None l m = refl
+    go (Some i) l m = refl
 
 pub length-sections-append : (a b : F.Tree) (at at' : ℕ) → length (sections at (a ++ b)) ≡ length (sections at a) + length (sections at' b)
 length-sections-append a b at at' =
@@ -58,7 +58,7 @@ sections-lines done its e =
     sections-append done its 0 ∙ ap (λ (z : List Placed). sections 0 done ++ z) (no-placed (sections at its) n) ∙ append-nil (sections 0 done)
 
 -- and a section after them
-pub sections-found : (done its : F.Tree) (it : Item F.State S.Section) (i : S.Section) → sections 0 its ≡ [] → it.info ≡ some i
+pub sections-found : (done its : F.Tree) (it : Item F.State S.Section) (i : S.Section) → sections 0 its ≡ [] → it.info ≡ Some i
     → sections 0 (done ++ (its ++ (it ∷ []))) ≡ sections 0 done ++ (record { boundary = length (flat (done ++ its)); section = i } ∷ [])
 unfolding sections
 sections-found done its it i e h =
@@ -72,5 +72,5 @@ unfolding sections
 counted-on limit st s done it n e h = length-sections-append done (it ∷ []) 0 0 ∙ go it.info e
   where
     go : (o : Option S.Section) → F.step limit st s ≡ ok (o, it.next) n → length (sections 0 done) + length (add_placed 0 o []) ≡ it.next.count
-    go none e = let q : it.next.count ≡ st.count = ap (λ (t : F.State). t.count) (passed limit st it.next s n e).after in omega (arith, h, q)
-    go (some i) e = let q : it.next.count ≡ suc st.count = ap (λ (t : F.State). t.count) (took limit st it.next s i n e).after in omega (arith, h, q)
+    go None e = let q : it.next.count ≡ st.count = ap (λ (t : F.State). t.count) (passed limit st it.next s n e).after in omega (arith, h, q)
+    go (Some i) e = let q : it.next.count ≡ suc st.count = ap (λ (t : F.State). t.count) (took limit st it.next s i n e).after in omega (arith, h, q)

@@ -1,31 +1,31 @@
 -- One step of reading: the fields, the name of the data block, the section and the cursor after it. Assumes nothing.
 use mathlib.Core.Path.{◌≡◌, refl, sym, ap, ◌∙◌, subst}
-use mathlib.Core.Option.{Option, none, some}
+use Rattle.std.specs.Prelude.{Option, None, Some, Result, Ok, Err}
 use mathlib.Core.Bool.{Bool, true, false, ◌&&◌, cond, not}
 use mathlib.Core.List.{List, [], ◌∷◌}
-use mathlib.Core.Logic.{⊎_elim}
 use Prim.Native.Nat.{ℕ, suc, ◌+◌, ◌-◌, ◌≤◌, ◌<◌}
 use native.Mathlib.Omega.{arith}
-use borrow.Author.Tests.{ltb-true, ltb-false, le-leb, lt-leb, eq-eqb, ne_eqb, eqb-true, eqb-false}
-use lib.Dec.{ltb, leb, eqb}
+use borrow.Author.Tests.{ltb-true, ltb-false, le-leb, lt-leb}
+use lib.Dec.{ltb, leb}
 use lib.ListN.{length, take, drop, get_or, length-drop}
 use lib.Seq.{slice, slice_empty, slice-cons, length-slice, take-take, take_all, length-take-le, drop-drop}
-use types.Run.{OneOf}
-use denote.Enum.Declared.{tag_of}
 use Rattle.cbf_walk.specs.Parsers.{Res, bad, cut, ok, ret, plus, then, bind, counted, screen, screen_or}
 use Rattle.cbf_format.specs.Text.{bytes, blank, blanks, lowers, same}
 use Rattle.cbf_format.specs.Lines.{line, refused_byte, text_line}
 use Rattle.cbf_answers.specs.Limits.{file_limit}
 use Rattle.cbf_format.specs.declared.Encoding.{Encoding}
+use Rattle.cbf_format.specs.declared.Stop.{Stop}
+use Rattle.cbf_format.specs.declared.Stop.TheVariants.{Refused}
+use Rattle.cbf_answers.specs.declared.Refusal.{Refusal}
 use Rattle.cbf_format.proofs.SectionTame.{headers-tame, section-tame}
-use Rattle.cbf_lines.specs.Text.{Run, in_class}
+use Rattle.cbf_lines.specs.Text.{Run}
+use Rattle.cbf_lines.specs.declared.line.Line.{Line}
 use Rattle.cbf_lines.specs.Line.{line_at}
-use Rattle.cbf_lines.specs.declared.text.Class.TheVariants.{NotBlank}
 use Rattle.cbf_reader.specs.Step.{field_at, Back, CursorOf, Ready, line_of_field, NextBlock, section_read_at}
 use Rattle.cbf_reader.specs.Step.{section_step, StepSays}
 use Rattle.cbf_format.specs.declared.Range.{Range}
 use Rattle.cbf_reader.specs.declared.step.Field.{Field}
-use Rattle.cbf_reader.specs.declared.step.Field.TheVariants.{First, Outside, Opened, Inside}
+use Rattle.cbf_reader.specs.declared.step.Field.TheVariants.{Outside}
 use Rattle.cbf_reader.specs.declared.step.Cursor.{Cursor}
 use Rattle.cbf_reader.specs.declared.step.SectionRead.{SectionRead}
 use Rattle.cbf_reader.specs.declared.step.Stepped.{Stepped}
@@ -34,113 +34,25 @@ use Rattle.cbf_reader.specs.declared.data.Data.{Data}
 use Rattle.cbf_format.specs.declared.Description.{Description}
 use Rattle.cbf_headers.specs.SectionHeaders.{headers_read_at}
 use Rattle.cbf_reader.specs.Data.{data_at}
-use Rattle.cbf_reader.specs.contracts.step.Field.{the_type}
-use Rattle.cbf_format.proofs.Slices.{slice-take}
+use Rattle.cbf_reader.proofs.DataLaws.{same-turned}
+use Rattle.cbf_format.proofs.Slices.{slice-take, slice-part}
 use Rattle.cbf_lines.proofs.TextLaws.{by-run, same-lengths, length-lowers}
 use Rattle.cbf_lines.proofs.LineLaws.{Passed, passed, says-text, says-refused}
 use Rattle.cbf_format.specs.Files as F
+use Rattle.cbf_format.specs.Sections.{opening}
 use Rattle.cbf_format.specs.Sections as S
 use Rattle.cbf_format.specs.Descriptions as D
-use Rattle.cbf_reader.specs.declared.step.SectionRead.TheVariants as R
-use Rattle.cbf_reader.specs.declared.step.Stepped.TheVariants as T
-use Rattle.cbf_lines.specs.declared.line.Line.TheVariants as L
-use Rattle.cbf_headers.specs.declared.section_headers.Headers.TheVariants as H
-use Rattle.cbf_reader.specs.declared.data.Data.TheVariants as O
-
--- ---- fields
-
-abbrev pub kind : Field → ℕ
-kind x = tag_of the_type x
-
-module _ (at : ℕ) where
-  pub is_opened : (p : ℕ) (f : F.Field) → Opened p ≡ field_at at f → true ≡ F.is_opened f
-  is_opened p F.first_line e = let q : ◌≡◌ {A = ℕ} 2 0 = ap kind e in absurd (omega arith)
-  is_opened p F.outside e = let q : ◌≡◌ {A = ℕ} 2 1 = ap kind e in absurd (omega arith)
-  is_opened p (F.opened m) e = refl
-  is_opened p (F.inside m) e = let q : ◌≡◌ {A = ℕ} 2 3 = ap kind e in absurd (omega arith)
-
-  pub not_opened : (x : Field) → OneOf (0 ∷ 1 ∷ 3 ∷ []) (kind x) → (f : F.Field) → x ≡ field_at at f → false ≡ F.is_opened f
-  not_opened x h F.first_line e = refl
-  not_opened x h F.outside e = refl
-  not_opened x h (F.opened m) e = let q : kind x ≡ 2 = ap kind e in absurd (⊎_elim (λ z. omega arith) (λ k. ⊎_elim (λ z. omega arith) (λ z. omega arith) k) h)
-  not_opened x h (F.inside m) e = refl
-
-  -- the line that a step reads
-  pub line_first : (limit : ℕ) (file : List ℕ) (f : F.Field) → Back at f → First ≡ field_at at f
-      → line_at 0 (screen (F.refused_first limit) (line file)) ≡ line_of_field at limit f (drop at file)
-  line_first limit file F.first_line b e = ap (λ (k : ℕ). line_of_field k limit F.first_line (drop k file)) (sym b)
-  line_first limit file F.outside b e = let q : ◌≡◌ {A = ℕ} 0 1 = ap kind e in absurd (omega arith)
-  line_first limit file (F.opened m) b e = let q : ◌≡◌ {A = ℕ} 0 2 = ap kind e in absurd (omega arith)
-  line_first limit file (F.inside m) b e = let q : ◌≡◌ {A = ℕ} 0 3 = ap kind e in absurd (omega arith)
-
-  pub line_other : (limit : ℕ) (s : List ℕ) (x : Field) → OneOf (1 ∷ 2 ∷ 3 ∷ []) (kind x) → (f : F.Field) → x ≡ field_at at f
-      → line_at at (text_line limit s) ≡ line_of_field at limit f s
-  line_other limit s x h F.first_line e = let q : kind x ≡ 0 = ap kind e in absurd (⊎_elim (λ z. omega arith)
-      (λ k. ⊎_elim (λ z. omega arith) (λ z. omega arith) k) h)
-  line_other limit s x h F.outside e = refl
-  line_other limit s x h (F.opened m) e = refl
-  line_other limit s x h (F.inside m) e = refl
-
-  -- the field after a line, by whether the line starts with `;` and whether blanks follow
-  abbrev pub field_after : Field → Bool → Bool → Field
-  field_after First s b = Outside
-  field_after Outside s b = cond s (cond b (Opened at) (Inside at)) Outside
-  field_after (Opened p) s b = cond s Outside (Inside p)
-  field_after (Inside p) s b = cond s Outside (Inside p)
-
-  in_field : (n m : ℕ) → m ≤ at → (s : Bool) → cond s Outside (Inside (at - m)) ≡ field_at (at + n) (cond s F.outside (F.inside (m + n)))
-  in_field n m k true = refl
-  in_field n m k false = let e : at - m ≡ (at + n) - (m + n) = omega arith in ap Inside e
-
-  field-after : (n : ℕ) (f : F.Field) → Back at f → (t : List ℕ) (s b : Bool) → s ≡ F.starts_field t → b ≡ blanks (drop 1 t)
-      → field_after (field_at at f) s b ≡ field_at (at + n) (F.next_field f t n)
-  field-after n F.first_line k t s b p q = refl
-  field-after n F.outside k t s b p q = go s b ∙ (λ i. field_at (at + n) (cond (p i) (cond (q i) (F.opened n) (F.inside n)) F.outside))
-    where
-      go : (s b : Bool) → cond s (cond b (Opened at) (Inside at)) Outside ≡ field_at (at + n) (cond s (cond b (F.opened n) (F.inside n)) F.outside)
-      go true true = let e : at ≡ (at + n) - n = omega arith in ap Opened e
-      go true false = let e : at ≡ (at + n) - n = omega arith in ap Inside e
-      go false b = refl
-  field-after n (F.opened m) k t s b p q = in_field n m k s ∙ (λ i. field_at (at + n) (cond (p i) F.outside (F.inside (m + n))))
-  field-after n (F.inside m) k t s b p q = in_field n m k s ∙ (λ i. field_at (at + n) (cond (p i) F.outside (F.inside (m + n))))
-
-  pub follows : (n : ℕ) (f : F.Field) → Back at f → (t : List ℕ) {x : Field} {s b : Bool} → x ≡ field_at at f → s ≡ F.starts_field t → b ≡ blanks (drop 1 t)
-      → field_after x s b ≡ field_at (at + n) (F.next_field f t n)
-  follows n f k t {x} {s} {b} e p q = ap (λ (y : Field). field_after y s b) e ∙ field-after n f k t s b p q
-
-  -- a line that starts with `;` has a byte
-  pub starts-some : (to : ℕ) (file : List ℕ) → at ≤ to → true ≡ F.starts_field (slice at to file) → at < to
-  starts-some to file h e = go (ltb at to) refl
-    where
-      go : (t : Bool) → ltb at to ≡ t → at < to
-      go true p = ltb-true at to p
-      go false p =
-          let l = ltb-false at to p in
-          let q : to ≡ at = omega arith in
-          let z : true ≡ false = e ∙ ap (λ (k : ℕ). F.starts_field (slice at k file)) q ∙ ap F.starts_field (slice_empty at file) in
-          let y : ◌≡◌ {A = ℕ} 0 1 = ap (λ (b : Bool). cond b 0 1) z in
-          absurd (omega arith)
 
 -- ---- the name of the data block
-
-eqb-turned : (x y : ℕ) → eqb x y ≡ eqb y x
-eqb-turned x y = go (eqb x y) refl
-  where
-    go : (t : Bool) → eqb x y ≡ t → t ≡ eqb y x
-    go true p = sym (eq-eqb y x (sym (eqb-true x y p)))
-    go false p = sym (ne_eqb y x (λ e. eqb-false x y p (sym e)))
-
-same-turned : (xs ys : List ℕ) → same xs ys ≡ same ys xs
-same-turned [] [] = refl
-same-turned [] (y ∷ ys) = refl
-same-turned (x ∷ xs) [] = refl
-same-turned (x ∷ xs) (y ∷ ys) = (λ i. eqb-turned x y i && same-turned xs ys i)
 
 abbrev data_word : List ℕ
 data_word = bytes "data_"
 
+abbrev pub not_blank : ℕ → Bool
+not_blank b = not (blank b)
+
 module _ (file : List ℕ) where
-  pub up-to-run : {from to r : ℕ} → Run (in_class NotBlank) file from to r → to ≤ length file → F.up_to_blank (slice from to file) ≡ slice from r file
+  pub up-to-run : {from to r : ℕ} → Run not_blank file from to r → to ≤ length file → F.up_to_blank (slice from to file) ≡ slice from r file
   up-to-run {from} {to} {r} run fits =
       by-run (λ (j : ℕ). F.up_to_blank (slice j to file) ≡ slice j r file) run
       (λ j h k e ih.
@@ -191,14 +103,20 @@ module _ (file : List ℕ) where
           let q : at ≤ length (take to file) = (let m = length-take-le to file fits in omega arith) in
           sym (slice-take (take to file) at 5 q) ∙ ap (drop at) (take-take (at + 5) to file enough)
 
-      word : (t : Bool) → t ≡ same data_word (lowers (slice at (at + 5) file)) → same (lowers (take 5 (slice at to file))) data_word ≡ t
-      word t e = ap (λ (x : List ℕ). same (lowers x) data_word) front ∙ same-turned (lowers (slice at (at + 5) file)) data_word ∙ sym e
+      -- its first five bytes, as the code takes them
+      abbrev five : List ℕ
+      five = take ((at + 5) - at) (drop at file)
 
-      pub block-other : false ≡ same data_word (lowers (slice at (at + 5) file)) → block.from ≤ block.to
+      word : (t : Bool) → t ≡ same data_word (lowers five) → same (lowers (take 5 (slice at to file))) data_word ≡ t
+      word t e =
+          ap (λ (x : List ℕ). same (lowers x) data_word) (front ∙ slice-part file at (at + 5) (omega arith) (omega arith))
+          ∙ same-turned (lowers five) data_word ∙ sym e
+
+      pub block-other : false ≡ same data_word (lowers five) → block.from ≤ block.to
           → block.to ≤ length file → NextBlock file at to block block
       block-other e l k = record { named = sym (ap named (word false e)); low = l; high = k }
 
-      pub block-named : true ≡ same data_word (lowers (slice at (at + 5) file)) → (r : ℕ) → Run (in_class NotBlank) file (at + 5) to r
+      pub block-named : true ≡ same data_word (lowers five) → (r : ℕ) → Run not_blank file (at + 5) to r
           → NextBlock file at to block (record { from = at + 5; to = r })
       block-named e r run =
           record {
@@ -221,17 +139,17 @@ module _ (file : List ℕ) (at to : ℕ) (block : Range) where
       go : (f : F.Field) → Outside ≡ field_at at f
           → F.next_block F.outside (slice at to file) (slice block.from block.to file)
           ≡ F.next_block f (slice at to file) (slice block.from block.to file)
-      go F.first_line e = let q : ◌≡◌ {A = ℕ} 1 0 = ap kind e in absurd (omega arith)
+      go F.first_line e = absurd cc
       go F.outside e = refl
-      go (F.opened m) e = let q : ◌≡◌ {A = ℕ} 1 2 = ap kind e in absurd (omega arith)
-      go (F.inside m) e = let q : ◌≡◌ {A = ℕ} 1 3 = ap kind e in absurd (omega arith)
+      go (F.opened m) e = absurd cc
+      go (F.inside m) e = absurd cc
 
-  pub block-kept : (x : Field) → OneOf (0 ∷ 2 ∷ 3 ∷ []) (kind x) → block.from ≤ block.to → block.to ≤ length file → BlockAfter file at to x block block
+  pub block-kept : (x : Field) → (x ≡ Outside → ⊥) → block.from ≤ block.to → block.to ≤ length file → BlockAfter file at to x block block
   block-kept x h l k = record { named = go; low = l; high = k }
     where
       go : (f : F.Field) → x ≡ field_at at f → slice block.from block.to file ≡ F.next_block f (slice at to file) (slice block.from block.to file)
       go F.first_line e = refl
-      go F.outside e = let q : kind x ≡ 1 = ap kind e in absurd (⊎_elim (λ z. omega arith) (λ k. ⊎_elim (λ z. omega arith) (λ z. omega arith) k) h)
+      go F.outside e = absurd (h e)
       go (F.opened m) e = refl
       go (F.inside m) e = refl
 
@@ -266,18 +184,20 @@ after_line_lem file c to next r g b h st n e k =
 -- ---- a section
 
 module _ (from : ℕ) (block : Range) where
-  abbrev pub with_data : Description → Data → SectionRead
-  with_data d (O.Refused r) = R.Refused r
-  with_data d O.CutOff = R.CutOff
-  with_data d (O.At first to after) = R.At (record { description = d; from = from; to = to; first = first; block = block }) after
+  abbrev pub with_data : Description → Result Data Stop → Result SectionRead Stop
+  with_data d (Err s) = Err s
+  with_data d (Ok o) =
+      Ok (record {
+        section = record { description = d; from = from; to = o.to; first = o.first; block = block };
+        next = o.next;
+      })
 
-  abbrev pub with_headers : Headers → (Encoding → ℕ → ℕ → Data) → SectionRead
-  with_headers (H.Refused r) g = R.Refused r
-  with_headers H.CutOff g = R.CutOff
-  with_headers (H.As d next) g = with_data d (g d.encoding d.size next)
+  abbrev pub with_headers : Result Headers Stop → (Encoding → ℕ → ℕ → Result Data Stop) → Result SectionRead Stop
+  with_headers (Err s) g = Err s
+  with_headers (Ok h) g = with_data h.description (g h.description.encoding h.description.size h.next)
 
 module _ (limit : ℕ) (file : List ℕ) (from at : ℕ) (low : from ≤ at) (block : Range) (b : List ℕ) where
-  abbrev pub data_from : Encoding → ℕ → ℕ → Data
+  abbrev pub data_from : Encoding → ℕ → ℕ → Result Data Stop
   data_from e size next = data_at next (S.data_for limit e size (drop next file))
 
   abbrev rest : (Description × ℕ) → List ℕ → Res S.Section
@@ -285,13 +205,17 @@ module _ (limit : ℕ) (file : List ℕ) (from at : ℕ) (low : from ≤ at) (bl
 
   with-data : (d : Description) (n : ℕ) (q : Res S.Data) (s : List ℕ)
       → with_data from block d (data_at (at + n) q) ≡ section_read_at from at block (plus n (then q (λ x. ret (S.section_of b (at - from) (d, n) x)) s))
-  with-data d n (bad k p) s = let e : (at + n) + p ≡ at + (n + p) = omega arith in ap (λ (z : ℕ). R.Refused (record { number = k; place = z })) e
+  with-data d n (bad k p) s =
+      let e : (at + n) + p ≡ at + (n + p) = omega arith in ap (λ (z : ℕ). Err (Refused (record { number = k; place = z }))) e
   with-data d n cut s = refl
   with-data d n (ok x m) s =
       let e : (at + n) + x.lead ≡ from + ((at - from) + n + x.lead) = omega arith in
       let f : (at + n) + x.width ≡ from + ((at - from) + n + x.width) = omega arith in
       let g : (at + n) + m ≡ at + (n + (m + 0)) = omega arith in
-      (λ i. R.At (record { description = d; from = from; to = f i; first = e i; block = block }) (g i))
+      (λ i. Ok (record {
+        section = record { description = d; from = from; to = f i; first = e i; block = block };
+        next = g i;
+      }))
 
   with-headers : (r : Res Description)
       → with_headers from block (headers_read_at at r) data_from ≡ section_read_at from at block (then (counted r) rest (drop at file))
@@ -301,35 +225,36 @@ module _ (limit : ℕ) (file : List ℕ) (from at : ℕ) (low : from ≤ at) (bl
       ap (λ (s : List ℕ). with_data from block d (data_at (at + n) (S.data_for limit d.encoding d.size s))) (sym (drop-drop n at file))
       ∙ with-data d n (S.data_for limit d.encoding d.size (drop n (drop at file))) (drop n (drop at file))
 
-  pub section-read : (h : Headers) → h ≡ headers_read_at at (D.headers limit file_limit (drop at file))
+  -- what the section reads, by what its headers and its data do
+  pub section-read : (h : Result Headers Stop) → h ≡ headers_read_at at (D.headers limit file_limit (drop at file))
       → with_headers from block h data_from ≡ section_read_at from at block (S.section limit b (at - from) (drop at file))
   unfolding S.section
-  section-read h e = ap (λ (y : Headers). with_headers from block y data_from) e ∙ with-headers (D.headers limit file_limit (drop at file))
+  section-read h e =
+      ap (λ (y : Result Headers Stop). with_headers from block y data_from) e ∙ with-headers (D.headers limit file_limit (drop at file))
 
-abbrev place_of : Headers → ℕ
-place_of (H.Refused r) = 0
-place_of H.CutOff = 0
-place_of (H.As d n) = n
-
-pub headers-within : (limit : ℕ) (file : List ℕ) (at : ℕ) → at ≤ length file → (d : Description) (next : ℕ)
-    → H.As d next ≡ headers_read_at at (D.headers limit file_limit (drop at file)) → next ≤ length file
-headers-within limit file at h d next = go (D.headers limit file_limit (drop at file)) refl
+pub headers-within : (limit : ℕ) (file : List ℕ) (at : ℕ) → at ≤ length file → (h : Headers)
+    → Ok h ≡ headers_read_at at (D.headers limit file_limit (drop at file)) → h.next ≤ length file
+headers-within limit file at inside h = go (D.headers limit file_limit (drop at file)) refl
   where
-    go : (r : Res Description) → D.headers limit file_limit (drop at file) ≡ r → H.As d next ≡ headers_read_at at r → next ≤ length file
-    go (bad k p) q e = let z : next ≡ 0 = ap place_of e in omega arith
-    go cut q e = let z : next ≡ 0 = ap place_of e in omega arith
+    go : (r : Res Description) → D.headers limit file_limit (drop at file) ≡ r → Ok h ≡ headers_read_at at r → h.next ≤ length file
+    go (bad k p) q e = absurd cc
+    go cut q e = absurd cc
     go (ok x n) q e =
-        let z : next ≡ at + n = ap place_of e in
+        let y : h ≡ record { description = x; next = at + n } = cc in
+        let z : h.next ≡ at + n = ap (λ (u : Headers). u.next) y in
         let w = (headers-tame limit file_limit).within (drop at file) x n q in
         let l : length (drop at file) ≡ length file - at = length-drop at file in
         omega arith
 
 -- ---- the step over a section
 
-abbrev pub step_over : Cursor → SectionRead → Stepped
-step_over c (R.Refused r) = T.Refused r
-step_over c R.CutOff = T.CutOff
-step_over c (R.At section after) = T.Section section (record { at = after; count = c.count + 1; block = c.block; field = Outside })
+abbrev pub step_over : Cursor → Result SectionRead Stop → Result Stepped Stop
+step_over c (Err s) = Err s
+step_over c (Ok r) =
+    Ok (record {
+      section = Some r.section;
+      cursor = record { at = r.next; count = c.count + 1; block = c.block; field = Outside };
+    })
 
 module _ (limit : ℕ) (file : List ℕ) (c : Cursor) (next : ℕ) (ready : Ready file c) (low : c.at ≤ next)
     (high : next ≤ length file) (st : F.State) (of : CursorOf file c st) where
@@ -337,8 +262,8 @@ module _ (limit : ℕ) (file : List ℕ) (c : Cursor) (next : ℕ) (ready : Read
   same_count = of.count
 
   over : c.count < 512 → (q : Res S.Section) (s : List ℕ) → ((i : S.Section) (m : ℕ) → q ≡ ok i m → m ≤ length (drop next file))
-      → StepSays file c (plus (next - c.at) (then q (λ i. ret (some i, F.after_section st)) s)) (step_over c (section_read_at c.at next c.block q))
-  over h (bad k p) s w = let e : next + p ≡ c.at + ((next - c.at) + p) = omega arith in ap (λ (z : ℕ). T.Refused (record { number = k; place = z })) e
+      → StepSays file c (plus (next - c.at) (then q (λ i. ret (Some i, F.after_section st)) s)) (step_over c (section_read_at c.at next c.block q))
+  over h (bad k p) s w = let e : next + p ≡ c.at + ((next - c.at) + p) = omega arith in ap (λ (z : ℕ). Err (Refused (record { number = k; place = z }))) e
   over h cut s w = refl
   over h (ok i m) s w =
       let l : length (drop next file) ≡ length file - next = length-drop next file in
@@ -360,7 +285,7 @@ module _ (limit : ℕ) (file : List ℕ) (c : Cursor) (next : ℕ) (ready : Read
         ),
       )
 
-  pub too_many : 512 ≤ c.count → StepSays file c (section_step limit st (next - c.at) (drop next file)) (T.Refused (record { number = 4; place = c.at }))
+  pub too_many : 512 ≤ c.count → StepSays file c (section_step limit st (next - c.at) (drop next file)) (Err (Refused (record { number = 4; place = c.at })))
   too_many h =
       let n = same_count in
       let e : leb 512 st.count ≡ true = le-leb 512 st.count (omega arith) in
@@ -368,11 +293,11 @@ module _ (limit : ℕ) (file : List ℕ) (c : Cursor) (next : ℕ) (ready : Read
       subst
       (λ (b : Bool).
       StepSays file c (cond b (bad 4 0) (plus (next - c.at) (bind (S.section limit st.block (next - c.at))
-      (λ i. ret (some i, F.after_section st)) (drop next file))))
-      (T.Refused (record { number = 4; place = c.at })))
-      (sym e) (ap (λ (y : ℕ). T.Refused (record { number = 4; place = y })) z)
+      (λ i. ret (Some i, F.after_section st)) (drop next file))))
+      (Err (Refused (record { number = 4; place = c.at }))))
+      (sym e) (ap (λ (y : ℕ). Err (Refused (record { number = 4; place = y }))) z)
 
-  pub section-over : c.count < 512 → (r : SectionRead) → section_read_at c.at next c.block
+  pub section-over : c.count < 512 → (r : Result SectionRead Stop) → section_read_at c.at next c.block
       (S.section limit st.block (next - c.at) (drop next file)) ≡ r
       → StepSays file c (section_step limit st (next - c.at) (drop next file)) (step_over c r)
   section-over h r p =
@@ -381,12 +306,12 @@ module _ (limit : ℕ) (file : List ℕ) (c : Cursor) (next : ℕ) (ready : Read
       subst
       (λ (b : Bool).
       StepSays file c (cond b (bad 4 0) (plus (next - c.at) (bind (S.section limit st.block (next - c.at))
-      (λ i. ret (some i, F.after_section st)) (drop next file)))) (step_over c r))
+      (λ i. ret (Some i, F.after_section st)) (drop next file)))) (step_over c r))
       (sym e)
       (subst
-      (λ (y : SectionRead).
+      (λ (y : Result SectionRead Stop).
       StepSays file c (plus (next - c.at) (bind (S.section limit st.block (next - c.at))
-      (λ i. ret (some i, F.after_section st)) (drop next file))) (step_over c y)) p
+      (λ i. ret (Some i, F.after_section st)) (drop next file))) (step_over c y)) p
       (over h (S.section limit st.block (next - c.at) (drop next file)) (drop next file)
       ((section-tame limit st.block (next - c.at)).within (drop next file))))
 
@@ -406,22 +331,22 @@ step_line_lem limit (F.opened m) s = refl
 step_line_lem limit (F.inside m) s = refl
 
 module _ (limit : ℕ) (file : List ℕ) (at : ℕ) (inside : at ≤ length file) (f : F.Field) where
-  pub line-passed : (to next : ℕ) → L.Text to next ≡ line_of_field at limit f (drop at file) → Passed (test_of limit f) file at to next
-  line-passed to next e = passed (test_of limit f) file at inside to next (e ∙ ap (line_at at) (step_line_lem limit f (drop at file)))
+  pub line-passed : (l : Line) → Ok l ≡ line_of_field at limit f (drop at file) → Passed (test_of limit f) file at l.to l.next
+  line-passed l e = passed (test_of limit f) file at inside l (e ∙ ap (line_at at) (step_line_lem limit f (drop at file)))
 
-  line-says : (to next : ℕ) → L.Text to next ≡ line_of_field at limit f (drop at file) → F.step_line limit f (drop at file) ≡ ok (slice at to file) (next - at)
-  line-says to next e = step_line_lem limit f (drop at file) ∙ says-text (test_of limit f) file at inside to next
+  line-says : (l : Line) → Ok l ≡ line_of_field at limit f (drop at file) → F.step_line limit f (drop at file) ≡ ok (slice at l.to file) (l.next - at)
+  line-says l e = step_line_lem limit f (drop at file) ∙ says-text (test_of limit f) file at inside l
       (e ∙ ap (line_at at) (step_line_lem limit f (drop at file)))
 
-  line-refuses : (k p : ℕ) → L.Refused (record { number = k; place = p }) ≡ line_of_field at limit f (drop at file)
-      → (F.step_line limit f (drop at file) ≡ bad k (p - at)) × (at ≤ p)
-  line-refuses k p e =
-      let q = says-refused (test_of limit f) file at inside k p (e ∙ ap (line_at at) (step_line_lem limit f (drop at file))) in
+  line-refuses : (r : Refusal) → Err r ≡ line_of_field at limit f (drop at file)
+      → (F.step_line limit f (drop at file) ≡ bad r.number (r.place - at)) × (at ≤ r.place)
+  line-refuses r e =
+      let q = says-refused (test_of limit f) file at inside r (e ∙ ap (line_at at) (step_line_lem limit f (drop at file))) in
       (step_line_lem limit f (drop at file) ∙ q.0, q.1)
 
 module _ (limit : ℕ) (st : F.State) (s t : List ℕ) (n : ℕ) (l : F.step_line limit st.field s ≡ ok t n) where
   abbrev tested : Bool → Res (Option S.Section × F.State)
-  tested m = then (counted (screen_or (cond m (some (4, 0)) none) t n)) (F.after_step_line limit st) s
+  tested m = then (counted (screen_or (cond m (Some (4, 0)) None) t n)) (F.after_step_line limit st) s
 
   by-line : F.step limit st s ≡ tested (F.is_boundary st t && leb 512 st.count)
   unfolding F.step
@@ -434,53 +359,64 @@ module _ (limit : ℕ) (st : F.State) (s t : List ℕ) (n : ℕ) (l : F.step_lin
   abbrev either : Bool → Res (Option S.Section × F.State)
   either b =
       cond (b && leb 512 st.count) (bad 4 0)
-      (plus n (F.section_or b (bind (S.section limit st.block n) (λ i. ret (some i, F.after_section st))) (ret (none, F.after_line st t n)) (drop n s)))
+      (plus n (F.section_or b (bind (S.section limit st.block n) (λ i. ret (Some i, F.after_section st))) (ret (None, F.after_line st t n)) (drop n s)))
 
   step_is : (b : Bool) → b ≡ F.is_boundary st t → F.step limit st s ≡ either b
   step_is b e = by-line ∙ tested-is (F.is_boundary st t && leb 512 st.count) ∙ ap either (sym e)
 
 module _ (limit : ℕ) (file : List ℕ) (c : Cursor) (ready : Ready file c) (st : F.State) (of : CursorOf file c st) where
-  pub step-refused : (k p : ℕ) → L.Refused (record { number = k; place = p }) ≡ line_of_field c.at limit st.field (drop c.at file)
-      → StepSays file c (F.step limit st (drop c.at file)) (T.Refused (record { number = k; place = p }))
+  pub step-refused : (r : Refusal) → Err r ≡ line_of_field c.at limit st.field (drop c.at file)
+      → StepSays file c (F.step limit st (drop c.at file)) (Err (Refused r))
   unfolding F.step
-  step-refused k p e =
-      let q = line-refuses limit file c.at ready.at_in st.field k p e in
+  step-refused r e =
+      let q = line-refuses limit file c.at ready.at_in st.field r e in
       let v = q.1 in
-      let z : p ≡ c.at + (p - c.at) = omega arith in
+      let z : r.place ≡ c.at + (r.place - c.at) = omega arith in
       subst
       (λ (y : Res (List ℕ)). StepSays file c (then (counted (screen (F.one_too_many st) y)) (F.after_step_line limit st)
-      (drop c.at file)) (T.Refused (record { number = k; place = p })))
-      (sym q.0) (ap (λ (y : ℕ). T.Refused (record { number = k; place = y })) z)
+      (drop c.at file)) (Err (Refused r)))
+      (sym q.0) (ap (λ (y : ℕ). Err (Refused (record { number = r.number; place = y }))) z)
 
-  module _ (to next : ℕ) (e : L.Text to next ≡ line_of_field c.at limit st.field (drop c.at file)) where
-    there : Passed (test_of limit st.field) file c.at to next
-    there = line-passed limit file c.at ready.at_in st.field to next e
+  module _ (l : Line) (e : Ok l ≡ line_of_field c.at limit st.field (drop c.at file)) where
+    there : Passed (test_of limit st.field) file c.at l.to l.next
+    there = line-passed limit file c.at ready.at_in st.field l e
 
-    pub step-section : true ≡ F.is_boundary st (slice c.at to file) → (r : Stepped) → StepSays file c (section_step limit st (next - c.at) (drop next file)) r
+    -- the line's text, as the code takes it from the file
+    abbrev pub text : List ℕ
+    text = take (l.to - c.at) (drop c.at file)
+
+    text_is : slice c.at l.to file ≡ text
+    text_is = let w = there in slice-part file c.at l.to w.low (let h = w.high in let i = w.within in omega arith)
+
+    boundary_is : (b : Bool) → b ≡ (F.is_opened st.field && same text opening) → b ≡ F.is_boundary st (slice c.at l.to file)
+    boundary_is b q = q ∙ ap (F.is_boundary st) (sym text_is)
+
+    pub step-section : true ≡ (F.is_opened st.field && same text opening) → (r : Result Stepped Stop)
+        → StepSays file c (section_step limit st (l.next - c.at) (drop l.next file)) r
         → StepSays file c (F.step limit st (drop c.at file)) r
     step-section b r h =
         let w = there in
         let lo = w.low in
         let hi = w.high in
-        let q : c.at + (next - c.at) ≡ next = omega arith in
-        let d : drop (next - c.at) (drop c.at file) ≡ drop next file = drop-drop (next - c.at) c.at file ∙ ap (λ (z : ℕ). drop z file) q in
+        let q : c.at + (l.next - c.at) ≡ l.next = omega arith in
+        let d : drop (l.next - c.at) (drop c.at file) ≡ drop l.next file = drop-drop (l.next - c.at) c.at file ∙ ap (λ (z : ℕ). drop z file) q in
         subst (λ (y : Res (Option S.Section × F.State)). StepSays file c y r)
-        (ap (section_step limit st (next - c.at)) (sym d) ∙ sym (step_is limit st (drop c.at file) (slice c.at to file) (next - c.at)
-        (line-says limit file c.at ready.at_in st.field to next e) true b)) h
+        (ap (section_step limit st (l.next - c.at)) (sym d) ∙ sym (step_is limit st (drop c.at file) (slice c.at l.to file) (l.next - c.at)
+        (line-says limit file c.at ready.at_in st.field l e) true (boundary_is true b))) h
 
-    pub step-over-line : false ≡ F.is_boundary st (slice c.at to file) → (d : Cursor)
-        → CursorOf file d (F.after_line st (slice c.at to file) (next - c.at)) → d.at ≡ next → d.block.from ≤ d.block.to → d.block.to ≤ length file
-        → StepSays file c (F.step limit st (drop c.at file)) (T.Line d)
-    step-over-line b d o p l h =
+    pub step-over-line : false ≡ (F.is_opened st.field && same text opening) → (d : Cursor)
+        → CursorOf file d (F.after_line st (slice c.at l.to file) (l.next - c.at)) → d.at ≡ l.next → d.block.from ≤ d.block.to → d.block.to ≤ length file
+        → StepSays file c (F.step limit st (drop c.at file)) (Ok (record { section = None; cursor = d }))
+    step-over-line b d o p low high =
         let w = there in
         let lo = w.low in
         let hi = w.high in
         let i = w.within in
         let f = ready.few in
         let m : d.count ≡ c.count = o.count ∙ sym of.count in
-        subst (λ (y : Res (Option S.Section × F.State)). StepSays file c y (T.Line d))
-        (sym (step_is limit st (drop c.at file) (slice c.at to file) (next - c.at)
-        (line-says limit file c.at ready.at_in st.field to next e) false b)) (
+        subst (λ (y : Res (Option S.Section × F.State)). StepSays file c y (Ok (record { section = None; cursor = d })))
+        (sym (step_is limit st (drop c.at file) (slice c.at l.to file) (l.next - c.at)
+        (line-says limit file c.at ready.at_in st.field l e) false (boundary_is false b))) (
           d,
           refl,
           (
@@ -490,10 +426,22 @@ module _ (limit : ℕ) (file : List ℕ) (c : Cursor) (ready : Ready file c) (st
               short = ready.short;
               at_in = omega arith;
               few = omega arith;
-              block_low = l;
-              block_high =
-                  h;
-              stands = (F.next_field st.field (slice c.at to file) (next - c.at), (o.back, o.field));
+              block_low = low;
+              block_high = high;
+              stands = (F.next_field st.field (slice c.at l.to file) (l.next - c.at), (o.back, o.field));
             },
           ),
         )
+
+-- where the line that was read at a cursor lies
+pub record LineAt (file : List ℕ) (c : Cursor) (l : Line) : Type 0 where
+  pub low : c.at ≤ l.to
+  pub high : l.to ≤ l.next
+  pub within : l.next ≤ length file
+
+pub line-there : (limit : ℕ) (file : List ℕ) (c : Cursor) → Ready file c → (l : Line)
+    → ((f : F.Field) → Back c.at f → c.field ≡ field_at c.at f → Ok l ≡ line_of_field c.at limit f (drop c.at file)) → LineAt file c l
+line-there limit file c ready l e =
+    let w = ready.stands in
+    let p = line-passed limit file c.at ready.at_in w.0 l (e w.0 w.1.0 w.1.1) in
+    record { low = p.low; high = p.high; within = p.within }

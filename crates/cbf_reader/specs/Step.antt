@@ -1,11 +1,15 @@
 -- A step of reading, at a place of the file.
 use Rattle.std.specs.Prelude.{◌≡◌, cond, List, ℕ, ◌+◌, ◌-◌, ◌≤◌, leb, length}
-use Rattle.std.proofs.Math.Option.{Option, none, some}
+use Rattle.std.specs.Prelude.{Option, None, Some, Result, Ok, Err}
 use Rattle.std.proofs.Math.Seq.{slice}
 use Rattle.cbf_walk.specs.Parsers.{Res, bad, cut, ok, ret, plus, bind}
 use Rattle.cbf_answers.specs.Limits.{file_limit}
 use Rattle.cbf_lines.specs.Line.{line_at}
 use Rattle.cbf_lines.specs.declared.line.Line.{Line}
+use Rattle.cbf_answers.specs.declared.Refusal.{Refusal}
+use Rattle.cbf_format.specs.declared.Stop.{Stop}
+use Rattle.cbf_format.specs.declared.Stop.TheVariants.{Refused, CutOff}
+use Rattle.cbf_format.specs.Reads.{read_at}
 use Rattle.cbf_format.specs.declared.Range.{Range}
 use Rattle.cbf_reader.specs.declared.step.Field.{Field}
 use Rattle.cbf_reader.specs.declared.step.Field.TheVariants.{First, Outside, Opened, Inside}
@@ -15,18 +19,14 @@ use Rattle.cbf_reader.specs.declared.step.SectionRead.{SectionRead}
 use Rattle.cbf_reader.specs.declared.step.Stepped.{Stepped}
 use Rattle.cbf_format.specs.Sections as S
 use Rattle.cbf_format.specs.Files as F
-use Rattle.cbf_reader.specs.declared.step.SectionRead.TheVariants as R
-use Rattle.cbf_reader.specs.declared.step.Stepped.TheVariants as T
 
 -- ---- a section
 
 abbrev pub section_at : ℕ → Range → S.Section → Section
 section_at from block i = record { description = i.description; from = from; to = from + i.width; first = from + i.first; block = block }
 
-abbrev pub section_read_at : ℕ → ℕ → Range → Res S.Section → SectionRead
-section_read_at from at block (bad k p) = R.Refused (record { number = k; place = at + p })
-section_read_at from at block cut = R.CutOff
-section_read_at from at block (ok i n) = R.At (section_at from block i) (at + n)
+abbrev pub section_read_at : ℕ → ℕ → Range → Res S.Section → Result SectionRead Stop
+section_read_at from at block r = read_at at (λ i n. record { section = section_at from block i; next = at + n }) r
 
 -- ---- the state, at a place
 
@@ -65,7 +65,7 @@ pub record NextBlock (file : List ℕ) (at to : ℕ) (block r : Range) : Type 0 
   pub low : r.from ≤ r.to
   pub high : r.to ≤ length file
 
-abbrev pub line_of_field : ℕ → ℕ → F.Field → List ℕ → Line
+abbrev pub line_of_field : ℕ → ℕ → F.Field → List ℕ → Result Line Refusal
 line_of_field at limit f s = line_at at (F.step_line limit f s)
 
 -- ---- what a step says
@@ -73,13 +73,14 @@ line_of_field at limit f s = line_at at (F.step_line limit f s)
 abbrev pub After : List ℕ → Cursor → ℕ → F.State → Cursor → Type 0
 After file c n st d = (d.at ≡ c.at + n) × CursorOf file d st × Ready file d
 
-abbrev pub StepSays : List ℕ → Cursor → Res (Option S.Section × F.State) → Stepped → Type 0
-StepSays file c (bad k p) r = r ≡ T.Refused (record { number = k; place = c.at + p })
-StepSays file c cut r = r ≡ T.CutOff
-StepSays file c (ok (none, st) n) r = (d : Cursor) × (r ≡ T.Line d) × After file c n st d
-StepSays file c (ok (some i, st) n) r = (d : Cursor) × (r ≡ T.Section (section_at c.at c.block i) d) × After file c n st d
+abbrev pub StepSays : List ℕ → Cursor → Res (Option S.Section × F.State) → Result Stepped Stop → Type 0
+StepSays file c (bad k p) r = r ≡ Err (Refused (record { number = k; place = c.at + p }))
+StepSays file c cut r = r ≡ Err CutOff
+StepSays file c (ok (None, st) n) r = (d : Cursor) × (r ≡ Ok (record { section = None; cursor = d })) × After file c n st d
+StepSays file c (ok (Some i, st) n) r =
+    (d : Cursor) × (r ≡ Ok (record { section = Some (section_at c.at c.block i); cursor = d })) × After file c n st d
 
 -- the step over a section whose boundary line took n bytes
 abbrev pub section_step : ℕ → F.State → ℕ → List ℕ → Res (Option S.Section × F.State)
 section_step limit st n s =
-    cond (leb 512 st.count) (bad 4 0) (plus n (bind (S.section limit st.block n) (λ i. ret (some i, F.after_section st)) s))
+    cond (leb 512 st.count) (bad 4 0) (plus n (bind (S.section limit st.block n) (λ i. ret (Some i, F.after_section st)) s))

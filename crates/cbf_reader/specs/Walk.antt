@@ -1,21 +1,19 @@
 -- The walk over a file, section by section.
 use Rattle.std.specs.Prelude.{◌≡◌, List, [], ◌∷◌, ◌++◌, ℕ, ◌<◌, ◌≤◌, length}
-use Rattle.std.proofs.Math.Option.{some}
+use Rattle.std.specs.Prelude.{Option, None, Some, Result, Ok, Err, unwrap_or}
 use Rattle.std.proofs.Math.Seq.{slice}
 use Rattle.cbf_walk.specs.Reading.{Item, Reading, refused, good, flat, read_f, Reached}
 use Rattle.cbf_answers.specs.Limits.{file_limit}
+use Rattle.cbf_answers.specs.declared.Refusal.{Refusal}
 use Rattle.cbf_format.specs.Listing.{Placed, sections}
 use Rattle.cbf_reader.specs.Step.{section_at, CursorOf, Ready}
 use Rattle.cbf_reader.specs.declared.step.Cursor.{Cursor}
 use Rattle.cbf_format.specs.declared.Section.{Section}
 use Rattle.cbf_reader.specs.declared.step.Field.{Field}
 use Rattle.cbf_reader.specs.declared.step.Field.TheVariants.{First, Outside, Opened, Inside}
-use Rattle.cbf_reader.specs.declared.walk.Start.{Start}
 use Rattle.cbf_reader.specs.declared.walk.NextSection.{NextSection}
-use Rattle.cbf_reader.specs.declared.walk.NextSection.TheVariants.{Refused, End, Found}
 use Rattle.cbf_format.specs.Sections as S
 use Rattle.cbf_format.specs.Files as F
-use Rattle.cbf_reader.specs.declared.walk.Start.TheVariants as B
 
 -- what reading the whole file gives
 abbrev pub whole : ℕ → List ℕ → Reading (Item F.State S.Section)
@@ -39,28 +37,28 @@ pub record SectionOf (file : List ℕ) (p : Placed) (s : Section) : Type 0 where
 
 -- what comes after these items: a section after lines without one; or such lines and the file's end; or a refusal of
 -- the file
-abbrev pub NextSays : ℕ → List ℕ → F.Tree → NextSection → Type 0
-NextSays limit file done (Refused r) = whole limit file ≡ refused r.number r.place
-NextSays limit file done End = (its : F.Tree) × (whole limit file ≡ good (done ++ its)) × (sections 0 its ≡ [])
-NextSays limit file done (Found s d) =
+abbrev pub NextSays : ℕ → List ℕ → F.Tree → Result (Option NextSection) Refusal → Type 0
+NextSays limit file done (Err r) = whole limit file ≡ refused r.number r.place
+NextSays limit file done (Ok None) = (its : F.Tree) × (whole limit file ≡ good (done ++ its)) × (sections 0 its ≡ [])
+NextSays limit file done (Ok (Some n)) =
     (its : F.Tree)
     × (it : Item F.State S.Section)
     × (i : S.Section)
-    × (it.info ≡ some i)
+    × (it.info ≡ Some i)
     × (sections 0 its ≡ [])
-    × SectionOf file (record { boundary = length (flat (done ++ its)); section = i }) s
-    × (d.field ≡ Outside)
-    × (length (flat done) < d.at)
-    × ReadTo limit file (done ++ (its ++ (it ∷ []))) d
+    × SectionOf file (record { boundary = length (flat (done ++ its)); section = i }) n.section
+    × (n.after.field ≡ Outside)
+    × (length (flat done) < n.after.at)
+    × ReadTo limit file (done ++ (its ++ (it ∷ []))) n.after
 
 -- the cursor before the first line
 abbrev pub start_cursor : Cursor
 start_cursor = record { at = 0; count = 0; block = record { from = 0; to = 0 }; field = First }
 
 -- a file that is refused before its first line, or the cursor before that
-abbrev pub StartSays : ℕ → List ℕ → Start → Type 0
-StartSays limit file (B.Refused r) = F.read limit file ≡ refused r.number r.place
-StartSays limit file (B.At c) = (c ≡ start_cursor) × (F.read limit file ≡ whole limit file) × (0 < length file) × (length file ≤ file_limit)
+abbrev pub StartSays : ℕ → List ℕ → Result Cursor Refusal → Type 0
+StartSays limit file (Err r) = F.read limit file ≡ refused r.number r.place
+StartSays limit file (Ok c) = (c ≡ start_cursor) × (F.read limit file ≡ whole limit file) × (0 < length file) × (length file ≤ file_limit)
 
 -- a field of the code, at a place
 abbrev pub FieldReady : Field → ℕ → Type 0
@@ -69,15 +67,18 @@ FieldReady Outside at = 0 ≤ 0
 FieldReady (Opened p) at = p ≤ at
 FieldReady (Inside p) at = p ≤ at
 
--- the place of the open field's `;`, or of the step that the file's end cut
-abbrev pub open_place : Field → ℕ → ℕ
-open_place First at = at
-open_place Outside at = at
-open_place (Opened p) at = p
-open_place (Inside p) at = p
+-- the place of the open field's `;`
+abbrev pub opened_at : Field → Option ℕ
+opened_at First = None
+opened_at Outside = None
+opened_at (Opened p) = Some p
+opened_at (Inside p) = Some p
 
-abbrev pub end_of : Field → NextSection
-end_of First = End
-end_of Outside = End
-end_of (Opened p) = Refused (record { number = 11; place = p })
-end_of (Inside p) = Refused (record { number = 11; place = p })
+-- 11, where the file ends inside a step: at the open field's `;`, or where that step began
+abbrev pub open_place : Field → ℕ → ℕ
+open_place field at = unwrap_or (opened_at field) at
+
+-- what the file's end means between two steps, by the open field's `;`
+abbrev pub end_of : Option ℕ → Result (Option NextSection) Refusal
+end_of None = Ok None
+end_of (Some p) = Err (record { number = 11; place = p })

@@ -9,7 +9,5 @@ mod walk;
 mod whole_file;
 
 pub use step::Cursor;
-pub use walk::{NextSection, Start, begin, next_section};
-pub use whole_file::{
-    Count, SectionFound, SectionPlace, count_sections, numbered_section, section_place,
-};
+pub use walk::{NextSection, begin, next_section};
+pub use whole_file::{SectionFound, count_sections, numbered_section, section_place};

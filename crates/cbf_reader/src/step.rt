@@ -4,24 +4,25 @@ ghost use Rattle.std.proofs.Math.Seq.{slice};
 ghost use Rattle.cbf_format.specs.Text.{same};
 ghost use Rattle.cbf_answers.specs.Limits.{file_limit};
 ghost use Rattle.cbf_format.specs.Sections.{opening, section as section_of};
-ghost use Rattle.cbf_lines.specs.Text.{Run, in_class};
-ghost use Rattle.cbf_lines.specs.declared.text.Class.TheVariants.{NotBlank};
 ghost use Rattle.cbf_reader.specs.Step.{line_of_field, field_at, Back, NextBlock, section_read_at, Ready, CursorOf};
 ghost use Rattle.cbf_reader.specs.Step.{StepSays, section_step};
 ghost use Rattle.cbf_format.specs.Files as F;
 
 use crate::data;
-use crate::data::Data;
-use cbf_answers::Refusal;
-use cbf_format::{OPENING, Range, Section};
+use cbf_answers::{Reason, Refusal};
+use cbf_format::{OPENING, Range, Section, Stop};
 use cbf_headers::section_headers;
-use cbf_headers::section_headers::Headers;
 use cbf_lines::line::Line;
-use cbf_lines::text::Class;
 use cbf_lines::{line, text};
 
+// "Sections: at most 512".
+pub const SECTION_LIMIT: usize = 512;
+
+// "A line outside fields starting with `data_` (any case) sets the block name".
+const BLOCK_WORD: [u8; 5] = *b"data_";
+
 // The state between two lines: in a text field, the place of its opening `;`.
-#[derive(Clone, Copy)]
+#[derive(Clone, Copy, Debug, PartialEq, Eq)]
 pub enum Field {
     First,
     Outside,
@@ -30,7 +31,7 @@ pub enum Field {
 }
 
 // Where reading stands: a place, how many sections were read, the name of the data block, and the field.
-#[derive(Clone, Copy)]
+#[derive(Clone, Copy, Debug, PartialEq, Eq)]
 pub struct Cursor {
     pub at: usize,
     pub count: usize,
@@ -38,51 +39,44 @@ pub struct Cursor {
     pub field: Field,
 }
 
+// A section, and where the next line starts.
 #[derive(Clone, Copy)]
-pub enum SectionRead {
-    Refused(Refusal),
-    CutOff,
-    At(Section, usize),
+pub struct SectionRead {
+    pub section: Section,
+    pub next: usize,
 }
 
 // The section whose boundary line starts at from and ends at at.
-fn section_at(file: &[u8], from: usize, at: usize, block: Range, limit: usize) -> SectionRead
+fn section_at(
+    file: &[u8],
+    from: usize,
+    at: usize,
+    block: Range,
+    limit: usize,
+) -> Result<SectionRead, Stop>
     requires { (from ≤ at) × (at ≤ length file.now) × (length file.now ≤ file_limit) }
     ensures { (b : List ℕ) → result ≡ section_read_at from at block (section_of limit b (at - from)
         (drop at file.now)) }
 {
-    let h = section_headers::section_headers(file, at, limit);
-    match h {
-        Headers::Refused(r) => SectionRead::Refused(r),
-        Headers::CutOff => SectionRead::CutOff,
-        Headers::As(d, next) => {
-            let encoding = d.encoding;
-            let size = d.size as usize;
-            let o = data::data_for(file, next, encoding, size, limit);
-            match o {
-                Data::Refused(r) => SectionRead::Refused(r),
-                Data::CutOff => SectionRead::CutOff,
-                Data::At(first, to, after) => SectionRead::At(
-                    Section {
-                        description: d,
-                        from: from,
-                        to: to,
-                        first: first,
-                        block: block,
-                    },
-                    after,
-                ),
-            }
-        }
-    }
-}
-
-// The first place from `from` on that is `to` or holds a blank.
-fn up_to_blank(file: &[u8], from: usize, to: usize) -> usize
-    requires { (from ≤ to) × (to ≤ length file.now) }
-    ensures { Run (in_class NotBlank) file.now from to result }
-{
-    text::after(file, from, to, Class::NotBlank)
+    let headers = section_headers::section_headers(file, at, limit)?;
+    let description = headers.description;
+    let data = data::data_for(
+        file,
+        headers.next,
+        description.encoding,
+        description.size as usize,
+        limit,
+    )?;
+    Ok(SectionRead {
+        section: Section {
+            description,
+            from,
+            to: data.to,
+            first: data.first,
+            block,
+        },
+        next: data.next,
+    })
 }
 
 // The data block's name after the line from at up to to, outside fields.
@@ -90,65 +84,43 @@ fn next_block(file: &[u8], at: usize, to: usize, block: Range) -> Range
     requires { (at ≤ to) × (to ≤ length file.now) × (block.from ≤ block.to) × (block.to ≤ length file.now) }
     ensures { NextBlock file.now at to block result }
 {
-    if to - at < 5 {
+    if to - at < BLOCK_WORD.len() {
         return block;
     }
-    let name = at + 5;
-    if !text::is_word_in_any_case(file, at, name, b"data_") {
+    let name = at + BLOCK_WORD.len();
+    if !text::is_word_in_any_case(&file[at..name], &BLOCK_WORD) {
         return block;
     }
     Range {
         from: name,
-        to: up_to_blank(file, name, to),
+        to: text::after(file, name, to, |b| !text::blank(b)),
     }
 }
 
 // Whether the line starts with `;`.
-fn starts_field(file: &[u8], at: usize, to: usize) -> bool
-    requires { (at ≤ to) × (to ≤ length file.now) }
-    ensures { result ≡ F.starts_field (slice at to file.now) }
+fn starts_field(line: &[u8]) -> bool
+    ensures { result ≡ F.starts_field line.now }
 {
-    if at == to {
-        return false;
-    }
-    file[at] == 59
+    line.starts_with(b";")
 }
 
-// The field after a line that is no boundary.
-fn next_field(file: &[u8], field: Field, at: usize, to: usize) -> Field
-    requires { (at ≤ to) × (to ≤ length file.now) }
+// The field after a line at at that is no boundary.
+fn next_field(field: Field, at: usize, line: &[u8]) -> Field
     ensures { (f : F.Field) (n : ℕ) → Back at f → field ≡ field_at at f → result ≡ field_at (at + n)
-        (F.next_field f (slice at to file.now) n) }
+        (F.next_field f line.now n) }
 {
-    let starts = starts_field(file, at, to);
-    match field {
-        Field::First => Field::Outside,
-        Field::Outside => {
-            if !starts {
-                return Field::Outside;
-            }
-            if text::is_blank_text(file, at + 1, to) {
-                return Field::Opened(at);
-            }
-            Field::Inside(at)
-        }
-        Field::Opened(p) => {
-            if starts {
-                return Field::Outside;
-            }
-            Field::Inside(p)
-        }
-        Field::Inside(p) => {
-            if starts {
-                return Field::Outside;
-            }
-            Field::Inside(p)
-        }
+    match (field, starts_field(line)) {
+        (Field::First, _) => Field::Outside,
+        (Field::Outside, true) if text::is_blank_text(&line[1..]) => Field::Opened(at),
+        (Field::Outside, true) => Field::Inside(at),
+        (Field::Outside, false) => Field::Outside,
+        (Field::Opened(_) | Field::Inside(_), true) => Field::Outside,
+        (Field::Opened(p) | Field::Inside(p), false) => Field::Inside(p),
     }
 }
 
 // The line at at: the first one, or another.
-fn line_of_field(file: &[u8], at: usize, field: Field, limit: usize) -> Line
+fn line_of_field(file: &[u8], at: usize, field: Field, limit: usize) -> Result<Line, Refusal>
     requires { at ≤ length file.now }
     ensures { (f : F.Field) → Back at f → field ≡ field_at at f → result ≡ line_of_field at limit f
         (drop at file.now) }
@@ -159,95 +131,73 @@ fn line_of_field(file: &[u8], at: usize, field: Field, limit: usize) -> Line
     }
 }
 
-// What one step gave: the cursor after a line, or a section and the cursor after it.
+// What one step gave: the section, where the step was over one, and the cursor after it.
 #[derive(Clone, Copy)]
-pub enum Stepped {
-    Refused(Refusal),
-    CutOff,
-    Line(Cursor),
-    Section(Section, Cursor),
+pub struct Stepped {
+    pub section: Option<Section>,
+    pub cursor: Cursor,
 }
 
 // The step over the section whose boundary line is from c.at up to next.
-fn section_step(file: &[u8], c: Cursor, next: usize, limit: usize) -> Stepped
+fn section_step(file: &[u8], c: Cursor, next: usize, limit: usize) -> Result<Stepped, Stop>
     requires { Ready file.now c × (c.at ≤ next) × (next ≤ length file.now) }
     ensures { (st : F.State) → CursorOf file.now c st → StepSays file.now c
         (section_step limit st (next - c.at) (drop next file.now)) result }
 {
-    if 512 <= c.count {
-        return Stepped::Refused(Refusal {
-            number: 4,
-            place: c.at,
-        });
+    if SECTION_LIMIT <= c.count {
+        return Err(Stop::Refused(Reason::TooLarge.at(c.at)));
     }
-    let block = c.block;
-    let s = section_at(file, c.at, next, block, limit);
-    match s {
-        SectionRead::Refused(r) => Stepped::Refused(r),
-        SectionRead::CutOff => Stepped::CutOff,
-        SectionRead::At(section, after) => Stepped::Section(
-            section,
-            Cursor {
-                at: after,
-                count: c.count + 1,
-                block: block,
-                field: Field::Outside,
-            },
-        ),
-    }
+    let read = section_at(file, c.at, next, c.block, limit)?;
+    Ok(Stepped {
+        section: Some(read.section),
+        cursor: Cursor {
+            at: read.next,
+            count: c.count + 1,
+            block: c.block,
+            field: Field::Outside,
+        },
+    })
 }
 
-// Whether the line from at up to to is an opening boundary: in a field that has just opened.
-fn is_boundary(file: &[u8], field: Field, at: usize, to: usize) -> bool
-    requires { (at ≤ to) × (to ≤ length file.now) }
-    ensures { (f : F.Field) → field ≡ field_at at f → result
-        ≡ (F.is_opened f && same (slice at to file.now) opening) }
+// Whether the line is an opening boundary: in a field that has just opened.
+fn is_boundary(field: Field, line: &[u8]) -> bool
+    ensures { (at : ℕ) (f : F.Field) → field ≡ field_at at f → result ≡ (F.is_opened f && same line.now opening) }
 {
-    match field {
-        Field::Opened(p) => text::is_word(file, at, to, &OPENING),
-        _ => false,
-    }
+    matches!(field, Field::Opened(_)) && text::is_word(line, &OPENING)
 }
 
 // The cursor after a line that is no boundary.
-fn line_step(file: &[u8], c: Cursor, to: usize, next: usize) -> Cursor
-    requires { (c.at ≤ to) × (to ≤ length file.now) × (c.block.from ≤ c.block.to)
+fn line_step(file: &[u8], c: Cursor, line: Line) -> Cursor
+    requires { (c.at ≤ line.to) × (line.to ≤ length file.now) × (c.block.from ≤ c.block.to)
         × (c.block.to ≤ length file.now) }
-    ensures { (st : F.State) (n : ℕ) → next ≡ c.at + n → CursorOf file.now c st
-        → CursorOf file.now result (F.after_line st (slice c.at to file.now) n) × (result.at ≡ next)
+    ensures { (st : F.State) (n : ℕ) → line.next ≡ c.at + n → CursorOf file.now c st
+        → CursorOf file.now result (F.after_line st (slice c.at line.to file.now) n) × (result.at ≡ line.next)
         × (result.block.from ≤ result.block.to) × (result.block.to ≤ length file.now) }
 {
-    let field = c.field;
-    let mut block = c.block;
-    match field {
-        Field::Outside => {
-            block = next_block(file, c.at, to, block);
-        }
-        _ => {}
-    }
+    let block = match c.field {
+        Field::Outside => next_block(file, c.at, line.to, c.block),
+        _ => c.block,
+    };
     Cursor {
-        at: next,
+        at: line.next,
         count: c.count,
-        block: block,
-        field: next_field(file, field, c.at, to),
+        block,
+        field: next_field(c.field, c.at, &file[c.at..line.to]),
     }
 }
 
 // One step from the cursor.
-pub fn step(file: &[u8], c: Cursor, limit: usize) -> Stepped
+pub fn step(file: &[u8], c: Cursor, limit: usize) -> Result<Stepped, Stop>
     requires { Ready file.now c }
     ensures { (st : F.State) → CursorOf file.now c st → StepSays file.now c
         (F.step limit st (drop c.at file.now)) result }
 {
-    let field = c.field;
-    let l = line_of_field(file, c.at, field, limit);
-    match l {
-        Line::Refused(r) => Stepped::Refused(r),
-        Line::Text(to, next) => {
-            if is_boundary(file, field, c.at, to) {
-                return section_step(file, c, next, limit);
-            }
-            Stepped::Line(line_step(file, c, to, next))
-        }
+    let line = line_of_field(file, c.at, c.field, limit)?;
+    if is_boundary(c.field, &file[c.at..line.to]) {
+        return section_step(file, c, line.next, limit);
     }
+    Ok(Stepped {
+        section: None,
+        cursor: line_step(file, c, line),
+    })
 }

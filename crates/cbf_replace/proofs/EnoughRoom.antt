@@ -1,7 +1,7 @@
 -- Room for as many bytes as the file has, 1,000 more and 15 for each pixel is always enough for replacing: 15 is then
 -- answered only for a new file over the file limit. Assumes nothing.
 use mathlib.Core.Path.{◌≡◌, refl}
-use mathlib.Core.Option.{Option, none, some}
+use Rattle.std.specs.Prelude.{Option, None, Some}
 use mathlib.Core.Bool.{Bool, true, false, cond}
 use mathlib.Core.List.{List, ◌++◌}
 use Prim.Native.Nat.{ℕ, ◌+◌, ◌*◌, ◌≤◌, ◌<◌}
@@ -99,8 +99,8 @@ enough-room limit file n frame room h = go (read limit file) refl
             → Enough (new_file file (or_missing o) frame) (section_outcome (or_missing o) (λ p.
             let d = p.section.description in
             replace_for d.encoding d frame (replaced_file file p (pack_byte_offset frame)) room))
-        by none w = another (new_file file (or_missing none) frame) 12 0 (λ z. omega arith)
-        by (some p) w =
+        by None w = another (new_file file (or_missing None) frame) 12 0 (λ z. omega arith)
+        by (Some p) w =
             let new = replaced_file file p (pack_byte_offset frame) in
             let fits = file-short file p frame (span-at limit n file its p q w) in
             let d = p.section.description in

@@ -1,6 +1,7 @@
 -- The section of the code and the section of the file, and the new file. Assumes nothing.
 use mathlib.Core.Path.{◌≡◌, refl, sym, ap, ◌∙◌, subst}
-use mathlib.Core.Option.{Option, none, some, none-ne-some}
+use Rattle.std.specs.Prelude.{Option, None, Some, Ok, Err}
+use Rattle.std.proofs.lemmas.Option.{none-some}
 use mathlib.Core.List.{List, [], ◌∷◌}
 use Prim.Native.Nat.{ℕ, zero, suc, ◌≤◌}
 use native.Mathlib.Omega.{arith}
@@ -30,7 +31,6 @@ use Rattle.cbf_replace.specs.NewFile.{one_replaced, SectionThere}
 use Rattle.cbf_replace.proofs.NewFileLaws.{SaysFitting}
 use Rattle.cbf_format.specs.Sections as S
 use Rattle.cbf_format.specs.Files as F
-use Rattle.cbf_reader.specs.declared.whole_file.SectionPlace.TheVariants as P
 
 -- ---- the section of the code
 
@@ -42,26 +42,26 @@ pub record Here (limit : ℕ) (file : List ℕ) (n : ℕ) (p : Placed) (f : Sect
   pub there : SectionThere limit file n f
   pub new : (os : List ℕ) → one_replaced limit file n os ≡ replaced_file file p os
 
-numbered-in : (n : ℕ) (ps : List Placed) (p : Placed) → numbered n ps ≡ some p → n ≤ length ps
+numbered-in : (n : ℕ) (ps : List Placed) (p : Placed) → numbered n ps ≡ Some p → n ≤ length ps
 unfolding numbered
 numbered-in zero ps p e = omega arith
-numbered-in (suc n) [] p e = absurd (none-ne-some p e)
+numbered-in (suc n) [] p e = absurd (none-some p e)
 numbered-in (suc zero) (q ∷ ps) p e = omega arith
 numbered-in (suc (suc n)) (q ∷ ps) p e = omega (arith, numbered-in (suc n) ps p e)
 
 pub here_of : (limit n : ℕ) (file : List ℕ) (f : SectionFound)
-    → PlaceSays limit file n (F.read limit file) (P.At f) → (p : Placed) × Here limit file n p f
+    → PlaceSays limit file n (F.read limit file) (Ok f) → (p : Placed) × Here limit file n p f
 here_of limit n file f h = go (F.read limit file) refl h
   where
-    go : (r : Reading (Item F.State S.Section)) → F.read limit file ≡ r → PlaceSays limit file n r (P.At f)
+    go : (r : Reading (Item F.State S.Section)) → F.read limit file ≡ r → PlaceSays limit file n r (Ok f)
         → (p : Placed) × Here limit file n p f
     go (refused k q) e h = let z : ◌≡◌ {A = ℕ} 0 1 = cc in absurd (omega arith)
     go (good its) e h = by (numbered n (sections 0 its)) refl h
       where
-        by : (o : Option Placed) → numbered n (sections 0 its) ≡ o → PlaceIs limit file n o (P.At f)
+        by : (o : Option Placed) → numbered n (sections 0 its) ≡ o → PlaceIs limit file n o (Ok f)
             → (p : Placed) × Here limit file n p f
-        by none q h = let z : ◌≡◌ {A = ℕ} 0 1 = cc in absurd (omega arith)
-        by (some p) q (g, same, i, b) =
+        by None q h = let z : ◌≡◌ {A = ℕ} 0 1 = cc in absurd (omega arith)
+        by (Some p) q (g, same, i, b) =
             let u : g ≡ f = cc in
             let is_section = sym (ap (λ (z : SectionFound). z.section) u) ∙ i.fields in
             let same-description = ap (λ (z : Section). z.description) is_section in (
@@ -91,7 +91,7 @@ Replaces file r n frame old said out =
 
 pub replace-refused : (limit : ℕ) (file : List ℕ) (n : ℕ) (t : Refusal) (frame : List ℤ) (old : List ℕ)
     → let r = F.read limit file in
-    PlaceSays limit file n r (P.Refused t) → Replaces file r n frame old (refuses t.number t.place) old
+    PlaceSays limit file n r (Err t) → Replaces file r n frame old (refuses t.number t.place) old
 unfolding replace_outcome
 replace-refused limit file n t frame old h =
     let r = F.read limit file in

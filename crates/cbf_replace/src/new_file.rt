@@ -6,10 +6,10 @@ ghost use Rattle.cbf_answers.specs.Limits.{pixel_limit};
 ghost use Rattle.cbf_format.specs.ReplaceCalls.{replace_fitting};
 ghost use Rattle.cbf_replace.specs.NewFile.{one_replaced, SectionThere};
 
-use cbf_answers::Answer;
+use cbf_answers::{Reason, Refusal};
 use cbf_format::Description;
-use cbf_measure::measure::Size;
 use cbf_reader::SectionFound;
+use cbf_rewrite::Chosen;
 
 // Replaces the frame of the section with this number, which was found: 14, 15, or the length of the new file, which is
 // written.
@@ -21,7 +21,7 @@ pub fn replace_section(
     frame: &[i64],
     out: &mut [u8],
     found: SectionFound,
-) -> Answer
+) -> Result<usize, Refusal>
     requires { SectionThere limit file.now number found × (d.elements ≤ pixel_limit) }
     ensures answer { outcome result ≡ replace_fitting d frame.now
         (one_replaced limit file.now number (pack_byte_offset frame.now))
@@ -31,18 +31,14 @@ pub fn replace_section(
         (length out.old))
         (one_replaced limit file.now number (pack_byte_offset frame.now)) out.old }
 {
-    let kind = d.kind;
     if frame.len() != d.elements as usize {
-        return cbf_answers::refused(14);
+        return Err(Reason::BadPixels.at(0));
     }
-    let size = cbf_measure::measure::octet_count(kind, frame);
-    match size {
-        Size::Outside => cbf_answers::refused(14),
-        Size::Octets(n) => {
-            let numbers: [usize; 1] = [number];
-            let ends: [usize; 1] = [frame.len()];
-            let sizes: [usize; 1] = [n];
-            cbf_rewrite::rewrite_file(file, limit, &numbers, &ends, &sizes, frame, out, found)
-        }
-    }
+    let size = cbf_measure::measure::octet_count(d.kind, frame).ok_or(Reason::BadPixels.at(0))?;
+    let chosen = [Chosen {
+        number,
+        end: frame.len(),
+        size,
+    }];
+    cbf_rewrite::rewrite_file(file, limit, &chosen, frame, out, found)
 }

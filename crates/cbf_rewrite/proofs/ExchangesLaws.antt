@@ -1,7 +1,7 @@
 -- Sections that are exchanged in a file: those without new octets add nothing, and the spans of a file's sections stand
 -- in its order and apart. Assumes nothing.
 use mathlib.Core.Path.{◌≡◌, refl, ap, ◌∙◌}
-use mathlib.Core.Option.{Option, none, some}
+use Rattle.std.specs.Prelude.{Option, None, Some}
 use mathlib.Core.List.{List, [], ◌∷◌, ◌++◌}
 use Prim.Native.Nat.{ℕ, zero, suc, ◌+◌, ◌≤◌, ◌<◌}
 use native.Mathlib.Omega.{arith}
@@ -17,13 +17,13 @@ use Rattle.cbf_format.proofs.FileLaws.{accepted, accepted-spans}
 -- ---- new octets
 
 -- a section without new octets
-pub exchanges-past : (f : NewOctets) (n : ℕ) (p : Placed) (ps : List Placed) → f n ≡ none
+pub exchanges-past : (f : NewOctets) (n : ℕ) (p : Placed) (ps : List Placed) → f n ≡ None
     → exchanges f n (p ∷ ps) ≡ exchanges f (suc n) ps
 unfolding exchanges
 exchanges-past f n p ps h = ap (λ (o : Option (List ℕ)). add_exchange p o (exchanges f (suc n) ps)) h
 
 -- the first sections have no new octets
-pub exchanges-skip : (f : NewOctets) (n k : ℕ) (ps : List Placed) → ((m : ℕ) → m < n + k → f m ≡ none)
+pub exchanges-skip : (f : NewOctets) (n k : ℕ) (ps : List Placed) → ((m : ℕ) → m < n + k → f m ≡ None)
     → exchanges f n ps ≡ exchanges f (n + k) (drop k ps)
 unfolding exchanges
 exchanges-skip f n zero ps h = let e : n ≡ n + 0 = omega arith in ap (λ (m : ℕ). exchanges f m ps) e
@@ -63,8 +63,8 @@ ordered-items (it ∷ its) at s =
   where
     go : (o : Option Section) (l : List Placed) → SpanIn (λ (i : Section). i.width) o (length it.bytes)
         → Ordered (at + length it.bytes) l → Ordered at (add_placed at o l)
-    go none l s h = ordered-before at (at + length it.bytes) l (omega arith) h
-    go (some i) l s h = (omega arith, ordered-before (at + i.width) (at + length it.bytes) l (omega arith) h)
+    go None l s h = ordered-before at (at + length it.bytes) l (omega arith) h
+    go (Some i) l s h = (omega arith, ordered-before (at + i.width) (at + length it.bytes) l (omega arith) h)
 
 -- of an accepted file
 pub ordered-sections : (limit : ℕ) (file : List ℕ) (its : Tree) → read limit file ≡ good its
@@ -75,12 +75,12 @@ ordered-sections limit file its e = ordered-items its 0 (accepted-spans limit fi
 
 section-after : (a : List Placed) (p : Placed) (rest : List Placed)
     → let l = (a ++ (p ∷ [])) ++ rest in
-    (drop (length a) l ≡ p ∷ drop (suc (length a)) l) × (numbered (suc (length a)) l ≡ some p)
+    (drop (length a) l ≡ p ∷ drop (suc (length a)) l) × (numbered (suc (length a)) l ≡ Some p)
 unfolding numbered
 section-after [] p rest = (refl, refl)
 section-after (q ∷ a) p rest = section-after a p rest
 
 pub section-next : {l : List Placed} (a : List Placed) (p : Placed) (rest : List Placed) {n : ℕ}
     → l ≡ (a ++ (p ∷ [])) ++ rest → n ≡ length a
-    → (drop n l ≡ p ∷ drop (suc n) l) × (numbered (suc n) l ≡ some p)
+    → (drop n l ≡ p ∷ drop (suc n) l) × (numbered (suc n) l ≡ Some p)
 section-next a p rest e h = rw (e, h) (section-after a p rest)

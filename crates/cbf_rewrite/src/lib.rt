@@ -6,4 +6,4 @@
 mod parts;
 mod rewrite;
 
-pub use rewrite::rewrite_file;
+pub use rewrite::{Chosen, rewrite_file};

@@ -2,7 +2,7 @@
 -- nothing.
 use mathlib.Core.Path.{◌≡◌, refl}
 use mathlib.Core.Logic.{◌≢◌}
-use mathlib.Core.Option.{Option, none, some}
+use Rattle.std.specs.Prelude.{Option, None, Some}
 use mathlib.Core.Bool.{Bool, true, false, cond}
 use mathlib.Core.List.{List, [], ◌∷◌}
 use Prim.Native.Nat.{ℕ, suc, ◌+◌, ◌-◌, ◌*◌, ◌≤◌}
@@ -123,7 +123,7 @@ enough-room limit file n room h = go (F.read limit file) refl
       where
         by : (o : Option Placed) → numbered n (sections 0 its) ≡ o
             → section_outcome (or_missing o) (λ p. frame_for p room) ≢ refuses 15 0
-        by none w e = never 12 0 (λ z. omega arith) e
-        by (some p) w e =
+        by None w e = never 12 0 (λ z. omega arith) e
+        by (Some p) w e =
             let few = elements-in-file (data-at limit n file its p q w) (span-at limit n file its p q w) in
             for p.section.description.elements (position p) (omega (arith, few)) (is_some (frame_of p)) e

@@ -1,60 +1,48 @@
 -- A file's section with a number: from what the reader says of it to what the calls answer, and where its octets are.
 -- Assumes nothing.
 use mathlib.Core.Path.{◌≡◌, refl, sym, ap, ◌∙◌, subst}
-use mathlib.Core.Option.{Option, none, some}
+use Rattle.std.specs.Prelude.{Option, None, Some, Ok, Err, Result as Answered}
 use mathlib.Core.Bool.{Bool, true, false, cond}
 use mathlib.Core.List.{List, []}
-use Prim.Native.Nat.{ℕ, ◌+◌, ◌-◌, ◌*◌, ◌≤◌}
+use Prim.Native.Nat.{ℕ, ◌+◌, ◌-◌, ◌≤◌}
 use native.Mathlib.Omega.{arith}
-use borrow.Author.Tests.{le-leb, ne_eqb}
+use borrow.Author.Tests.{le-leb}
 use lib.Dec.{leb, eqb}
 use lib.IntN.{ℤ}
 use lib.ListN.{length, take, drop}
 use lib.Seq.{slice}
 use Rattle.cbf_answers.specs.Limits.{pixel_limit}
 use Rattle.cbf_walk.specs.Reading.{Item, Reading, refused, good}
-use Rattle.cbf_pixels.specs.Uncompressed.{octets_per}
-use Rattle.cbf_answers.specs.Answers.{Outcome, gives, refuses, written}
+use Rattle.cbf_answers.specs.Answers.{Outcome, gives, refuses, outcome, written}
 use Rattle.cbf_pixels.specs.PixelCalls.{is_some, pixels_of, unpack_pixels, unpack_outcome, unpack_output}
-use Rattle.cbf_pixels.specs.declared.Compression.TheVariants.{Uncompressed}
 use Rattle.cbf_answers.specs.declared.Refusal.{Refusal}
 use Rattle.cbf_format.specs.declared.Encoding.{Encoding}
 use Rattle.cbf_format.specs.declared.Encoding.TheVariants.{Binary, Base64}
 use Rattle.cbf_format.specs.Listing.{Placed, sections, numbered, position}
 use Rattle.cbf_format.proofs.OctetLaws.{DataAt, data-at, binary-octets, octet-count, few-elements, whole-elements}
 use Rattle.cbf_reader.specs.WholeFile.{count_of, NumberedIs, NumberedSays}
-use Rattle.cbf_reader.specs.Step.{section_at}
 use Rattle.cbf_reader.specs.Walk.{SectionOf}
 use Rattle.cbf_format.specs.declared.Section.{Section}
-use Rattle.cbf_reader.specs.declared.whole_file.Count.{Count}
-use Rattle.cbf_format.specs.declared.Numbered.{Numbered}
-use Rattle.cbf_letters.specs.Octets.{GoodText, text_octets, TextOf}
 use Rattle.cbf_format.specs.SectionCalls.{read_outcome, Result, refusal, value, or_missing, section_numbered, of_section}
 use Rattle.cbf_format.specs.SectionCalls.{section_outcome, numbered_fields, fields_of, section_fields, placed_at, frame_of}
 use Rattle.cbf_format.specs.SectionCalls.{frame_for, frame_outcome, frame_pixels, OctetsAnswer, octets_for, octets_in}
-use Rattle.cbf_format.specs.SectionCalls.{octets_of, Place, octets_place, octets_outcome, octets_part, NameInside}
+use Rattle.cbf_format.specs.SectionCalls.{octets_of, Place, octets_place, octets_outcome, octets_part}
 use Rattle.cbf_sections.specs.Frame.{FrameOf}
 use Rattle.cbf_format.proofs.Slices.{slice-part}
 use Rattle.cbf_letters.proofs.SectionTexts.{text_of}
 use Rattle.cbf_format.specs.Sections as S
 use Rattle.cbf_format.specs.Files as F
-use Rattle.cbf_reader.specs.declared.whole_file.Count.TheVariants as C
-use Rattle.cbf_format.specs.declared.Numbered.TheVariants as N
 
 -- ---- how many sections
 
-abbrev pub count_says : Count → Outcome
-count_says (C.Refused r) = refuses r.number r.place
-count_says (C.Sections n) = gives n
-
-pub count-outcome : (r : Reading (Item F.State S.Section)) → count_says (count_of r) ≡ read_outcome r
+pub count_outcome : (r : Reading (Item F.State S.Section)) → outcome (count_of r) ≡ read_outcome r
 unfolding read_outcome
-count-outcome (refused k p) = refl
-count-outcome (good its) = refl
+count_outcome (refused k p) = refl
+count_outcome (good its) = refl
 
 -- ---- the section with a number
 
-pub section-fields : (file : List ℕ) (n : ℕ) (r : Reading (Item F.State S.Section)) (s : Numbered) → NumberedSays file n r s
+pub section-fields : (file : List ℕ) (n : ℕ) (r : Reading (Item F.State S.Section)) (s : Answered Section Refusal) → NumberedSays file n r s
     → numbered_fields file s ≡ section_fields r n
 unfolding section_fields
 section-fields file n (refused k p) s e = ap (numbered_fields file) e
@@ -62,8 +50,8 @@ section-fields file n (good its) s e = go (numbered n (sections 0 its)) e
   where
     go : (o : Option Placed) → NumberedIs file o s
         → numbered_fields file s ≡ of_section (or_missing o) (λ p. value (fields_of p))
-    go none e = ap (numbered_fields file) e
-    go (some p) (t, e, d) =
+    go None e = ap (numbered_fields file) e
+    go (Some p) (t, e, d) =
         let b = slice t.block.from t.block.to file in
         ap (numbered_fields file) e
         ∙ ap (λ (z : Section). value (record {
@@ -75,15 +63,6 @@ section-fields file n (good its) s e = go (numbered n (sections 0 its)) e
         })) d.fields
         ∙ rw d.block
 
-pub name-inside : (file : List ℕ) (n : ℕ) (r : Reading (Item F.State S.Section)) (s : Numbered) → NumberedSays file n r s
-    → NameInside file s
-name-inside file n (refused k p) s e = subst (NameInside file) (sym e) (omega arith)
-name-inside file n (good its) s e = go (numbered n (sections 0 its)) e
-  where
-    go : (o : Option Placed) → NumberedIs file o s → NameInside file s
-    go none e = subst (NameInside file) (sym e) (omega arith)
-    go (some p) (t, e, d) = subst (NameInside file) (sym e) (d.block_low, d.block_high)
-
 -- ---- its octets
 
 -- where the octets of the code's section are
@@ -91,9 +70,9 @@ abbrev pub place_for : Encoding → ℕ → ℕ → Result Place
 place_for Binary first size = value (record { start = first; count = size })
 place_for Base64 first size = refusal 18 0
 
-abbrev pub numbered_place : Numbered → Result Place
-numbered_place (N.Refused r) = refusal r.number r.place
-numbered_place (N.As s) = place_for s.description.encoding s.first s.description.size
+abbrev pub numbered_place : Answered Section Refusal → Result Place
+numbered_place (Err r) = refusal r.number r.place
+numbered_place (Ok s) = place_for s.description.encoding s.first s.description.size
 
 -- the part of the file at a place
 pub record PartAt (file octets : List ℕ) (from to : ℕ) : Type 0 where
@@ -115,7 +94,7 @@ no_part file = record { low = omega arith; high = omega arith; is = refl }
 
 module _ (limit n : ℕ) (file : List ℕ) where
   -- the place that the code's section says
-  pub place_in : (s : Numbered) → NumberedSays file n (F.read limit file) s
+  pub place_in : (s : Answered Section Refusal) → NumberedSays file n (F.read limit file) s
       → numbered_place s ≡ octets_place (octets_of (F.read limit file) n)
   unfolding octets_of
   place_in s h = go (F.read limit file) refl h
@@ -132,8 +111,8 @@ module _ (limit n : ℕ) (file : List ℕ) where
         where
           by : (o : Option Placed) → numbered n (sections 0 its) ≡ o → NumberedIs file o s
               → numbered_place s ≡ octets_place (of_section (or_missing o) octets_in)
-          by none q h = ap numbered_place h
-          by (some p) q (t, same, d) =
+          by None q h = ap numbered_place h
+          by (Some p) q (t, same, d) =
               ap numbered_place same
               ∙ ap (λ (z : Section). place_for z.description.encoding z.first z.description.size) d.fields
               ∙ for p p.section.description.encoding (data-at limit n file its p e q)
@@ -163,17 +142,24 @@ module _ (limit n : ℕ) (file : List ℕ) where
         where
           by : (o : Option Placed) → numbered n (sections 0 its) ≡ o
               → Holds (of_section (or_missing o) octets_in)
-          by none q = no_part file
-          by (some p) q = for p p.section.description.encoding refl (data-at limit n file its p e q)
+          by None q = no_part file
+          by (Some p) q = for p p.section.description.encoding refl (data-at limit n file its p e q)
+
+  -- and so are those at the place that was answered
+  pub part_there : {first size : ℕ} → value (record { start = first; count = size }) ≡ octets_place (octets_of (F.read limit file) n)
+      → PartAt file (octets_part (octets_of (F.read limit file) n)) first (first + size)
+  part_there e = subst (PartFor file (octets_part (octets_of (F.read limit file) n))) (sym e) part_at
 
 -- how many octets there are at a place
-abbrev pub place_outcome : Result Place → Outcome
-place_outcome (refusal k p) = refuses k p
-place_outcome (value a) = gives a.count
+pub octets_counted : (o : Result OctetsAnswer) (a : Place) → value a ≡ octets_place o → octets_outcome o ≡ gives a.count
+octets_counted (refusal k p) a e = absurd cc
+octets_counted (value x) a e = let q : a ≡ record { start = x.start; count = length x.octets } = cc in ap (λ (y : Place). gives y.count) (sym q)
 
-pub place-outcome : (o : Result OctetsAnswer) → place_outcome (octets_place o) ≡ octets_outcome o
-place-outcome (refusal k p) = refl
-place-outcome (value o) = refl
+pub octets_refused : (o : Result OctetsAnswer) (k p : ℕ) → refusal k p ≡ octets_place o → octets_outcome o ≡ refuses k p
+octets_refused (refusal j q) k p e = cc
+octets_refused (value x) k p e = absurd cc
+
+pub ruleset octets_said = (octets_counted, octets_refused)
 
 -- ---- its frame
 
@@ -188,32 +174,21 @@ frame {p} d h =
     }
 
 -- the code's section of an accepted file has the octets of the file's
-pub frame-of : (limit n : ℕ) (file : List ℕ) (s : Section) → NumberedSays file n (F.read limit file) (N.As s)
+pub frame-of : (limit n : ℕ) (file : List ℕ) (s : Section) → NumberedSays file n (F.read limit file) (Ok s)
     → (p : Placed) × (section_numbered (F.read limit file) n ≡ value p) × FrameOf file p s
 frame-of limit n file s h = go (F.read limit file) refl h
   where
-    go : (r : Reading (Item F.State S.Section)) → F.read limit file ≡ r → NumberedSays file n r (N.As s)
+    go : (r : Reading (Item F.State S.Section)) → F.read limit file ≡ r → NumberedSays file n r (Ok s)
         → (p : Placed) × (section_numbered r n ≡ value p) × FrameOf file p s
-    go (refused k q) e h = let z : ◌≡◌ {A = ℕ} 0 1 = cc in absurd (omega arith)
+    go (refused k q) e h = absurd cc
     go (good its) e h = by (numbered n (sections 0 its)) refl h
       where
-        by : (o : Option Placed) → numbered n (sections 0 its) ≡ o → NumberedIs file o (N.As s)
+        by : (o : Option Placed) → numbered n (sections 0 its) ≡ o → NumberedIs file o (Ok s)
             → (p : Placed) × (or_missing o ≡ value p) × FrameOf file p s
-        by none q h = let z : ◌≡◌ {A = ℕ} 0 1 = cc in absurd (omega arith)
-        by (some p) q (t, same, d) =
+        by None q h = absurd cc
+        by (Some p) q (t, same, d) =
             let u : t ≡ s = cc in
             (p, refl, frame (data-at limit n file its p e q) (subst (SectionOf file p) u d))
-
--- the text of a section, as the code takes it from the file
-pub record TextFor (file octets : List ℕ) (s : Section) : Type 0 where
-  pub long : 31 ≤ s.to
-  pub fits : (s.first ≤ s.to - 31)
-      × (s.to - 31 ≤ length file)
-      × GoodText file s.first (s.to - 31)
-      × (s.description.size ≤ length (text_octets file s.first (s.to - 31)))
-      × (s.description.elements ≤ pixel_limit)
-      × (s.description.compression ≡ Uncompressed → s.description.size ≡ s.description.elements * octets_per s.description.kind)
-  pub is : take s.description.size (text_octets file s.first (s.to - 31)) ≡ octets
 
 module _ {file : List ℕ} {p : Placed} {s : Section} (f : FrameOf file p s) where
   pub frame-binary : s.description.encoding ≡ Binary → PartAt file p.section.octets s.first (s.first + s.description.size)
@@ -221,17 +196,6 @@ module _ {file : List ℕ} {p : Placed} {s : Section} (f : FrameOf file p s) whe
       subst (λ (z : Section). z.description.encoding ≡ Binary → PartAt file p.section.octets z.first
       (z.first + z.description.size)) (sym f.is.fields)
       (λ e. let b = f.binary e in record { low = omega arith; high = b.inside; is = sym b.octets })
-
-  pub frame-text : s.description.encoding ≡ Base64 → TextFor file p.section.octets s
-  frame-text =
-      subst (λ (z : Section). z.description.encoding ≡ Base64 → TextFor file p.section.octets z)
-      (sym f.is.fields) (λ e. go (f.base64 e).0 (f.base64 e).1)
-    where
-      go : (to : ℕ) → TextOf file p to → TextFor file p.section.octets (section_at p.boundary s.block p.section)
-      go to i =
-          let q : to ≡ p.boundary + p.section.width - 31 = omega (arith, i.end) in
-          let j = subst (TextOf file p) q i in
-          record { long = omega (arith, i.end); fits = (j.begun, j.inside, j.good_text, j.enough, f.few, f.whole); is = sym j.octets }
 
 -- ---- what unpacking it answers
 
@@ -245,37 +209,21 @@ output_for s os old = unpack_output s.description.compression s.description.kind
 abbrev pixels_for : Section → List ℕ → List ℤ
 pixels_for s os = pixels_of (unpack_pixels s.description.compression s.description.kind s.description.elements os)
 
--- what was said of octets that are the section's
-pub said_of : {file : List ℕ} {s : Section} {os : List ℕ} {o : Outcome} (old : List ℤ) {new : List ℤ}
-    → ((p : Placed) → FrameOf file p s → os ≡ p.section.octets)
-    → (o ≡ answer_for s os (length old))
-    × (new ≡ output_for s os old)
-    → ((p : Placed) → FrameOf file p s → o ≡ answer_for s p.section.octets (length old))
-    × ((p : Placed) → FrameOf file p s → new ≡ output_for s p.section.octets old)
-said_of old e u = (λ p f. rw (← (e p f)) u.0, λ p f. rw (← (e p f)) u.1)
-
 -- what is answered for a section that is there
 pub section-answer : {r : Result Placed} (p : Placed) (f : Placed → Outcome) → r ≡ value p → section_outcome r f ≡ f p
 section-answer p f e = ap (λ (x : Result Placed). section_outcome x f) e
 
 -- and where there is none
 pub section-refused : (file : List ℕ) (n : ℕ) (r : Reading (Item F.State S.Section)) (t : Refusal) (f : Placed → Outcome)
-    → NumberedSays file n r (N.Refused t) → refuses t.number t.place ≡ section_outcome (section_numbered r n) f
+    → NumberedSays file n r (Err t) → refuses t.number t.place ≡ section_outcome (section_numbered r n) f
 section-refused file n (refused k p) t f e = cc
 section-refused file n (good its) t f e = go (numbered n (sections 0 its)) e
   where
-    go : (o : Option Placed) → NumberedIs file o (N.Refused t) → refuses t.number t.place ≡ section_outcome (or_missing o) f
-    go none e = cc
-    go (some p) (s, e, d) = let z : ◌≡◌ {A = ℕ} 0 1 = cc in absurd (omega arith)
+    go : (o : Option Placed) → NumberedIs file o (Err t) → refuses t.number t.place ≡ section_outcome (or_missing o) f
+    go None e = cc
+    go (Some p) (s, e, d) = absurd cc
 
--- 13 is placed, and nothing else is
-pub placed-13 : (first : ℕ) (t : Refusal) → t.number ≡ 13 → refuses 13 first ≡ placed_at first (refuses t.number t.place)
-placed-13 first t e = rw e
-
-pub placed-other : (first : ℕ) (t : Refusal) → (t.number ≡ 13 → ⊥) → refuses t.number t.place ≡ placed_at first (refuses t.number t.place)
-placed-other first t e = rw (ne_eqb t.number 13 e)
-
--- which changes nothing of what is written
+-- placing 13 changes nothing of what is written
 written-placed : (first : ℕ) (o : Outcome) (new old : List ℤ) → written (placed_at first o) new old ≡ written o new old
 unfolding written
 written-placed first (gives n) new old = refl
@@ -307,7 +255,7 @@ unpack-placed p room few =
 abbrev pub FrameSays : Reading (Item F.State S.Section) → ℕ → List ℤ → Outcome → List ℤ → Type 0
 FrameSays r n old o new = (o ≡ frame_outcome r n (length old)) × (new ≡ written (frame_outcome r n (length old)) (frame_pixels r n) old)
 
-pub frame_refused : (file : List ℕ) (n : ℕ) (r : Reading (Item F.State S.Section)) (t : Refusal) (old : List ℤ) → NumberedSays file n r (N.Refused t)
+pub frame_refused : (file : List ℕ) (n : ℕ) (r : Reading (Item F.State S.Section)) (t : Refusal) (old : List ℤ) → NumberedSays file n r (Err t)
     → FrameSays r n old (refuses t.number t.place) old
 unfolding frame_outcome written
 frame_refused file n r t old h = let e = section-refused file n r t (λ p. frame_for p (length old)) h in (e, rw (← e))

@@ -7,29 +7,21 @@ ghost use Rattle.cbf_format.specs.SectionCalls.{placed_at, frame_outcome, frame_
 ghost use Rattle.cbf_sections.specs.Frame.{FrameOf};
 ghost use Rattle.cbf_format.specs.Files as F;
 
-use cbf_answers::{Answer, Refusal};
-use cbf_format::{CLOSING_LENGTH, Encoding, Numbered, Section};
+use cbf_answers::{Reason, Refusal};
+use cbf_format::{CLOSING_LENGTH, Encoding, Section};
 
 // 13 is at the section's first octet.
-fn placed(answer: Answer, first: usize) -> Answer
+fn placed(answer: Result<usize, Refusal>, first: usize) -> Result<usize, Refusal>
     ensures { outcome result ≡ placed_at first (outcome answer) }
 {
     match answer {
-        Answer::Length(n) => Answer::Length(n),
-        Answer::Refused(r) => {
-            if r.number == 13 {
-                return Answer::Refused(Refusal {
-                    number: 13,
-                    place: first,
-                });
-            }
-            Answer::Refused(r)
-        }
+        Err(r) if r.number == u32::from(Reason::BadOctets) => Err(Reason::BadOctets.at(first)),
+        _ => answer,
     }
 }
 
 // Unpacks the octets of a section, from the file or from the text that they stand in. 13 is at 0.
-fn unpack_octets(file: &[u8], s: Section, out: &mut [i64]) -> Answer
+fn unpack_octets(file: &[u8], s: Section, out: &mut [i64]) -> Result<usize, Refusal>
     requires { (p : Placed) × FrameOf file.now p s }
     ensures answer { (p : Placed) → FrameOf file.now p s → outcome result
         ≡ unpack_outcome s.description.compression s.description.kind s.description.elements
@@ -39,21 +31,18 @@ fn unpack_octets(file: &[u8], s: Section, out: &mut [i64]) -> Answer
         p.section.octets out.old }
 {
     let d = s.description;
-    let encoding = d.encoding;
-    let compression = d.compression;
-    let kind = d.kind;
     let size = d.size as usize;
     let count = d.elements as usize;
-    let first = s.first;
-    match encoding {
+    match d.encoding {
         Encoding::Binary => {
-            cbf_unpack::unpack(compression, kind, &file[first..first + size], count, out)
+            let octets = &file[s.first..s.first + size];
+            cbf_unpack::unpack(d.compression, d.kind, octets, count, out)
         }
         Encoding::Base64 => cbf_text::unpack(
-            compression,
-            kind,
+            d.compression,
+            d.kind,
             file,
-            first,
+            s.first,
             s.to - CLOSING_LENGTH,
             size,
             count,
@@ -63,15 +52,12 @@ fn unpack_octets(file: &[u8], s: Section, out: &mut [i64]) -> Answer
 }
 
 // Unpacks the frame of the section with this number: reading's refusal, 12, 13, 15, or the number of its pixels.
-pub fn unpack(file: &[u8], limit: usize, number: usize, out: &mut [i64]) -> Answer
+pub fn unpack(file: &[u8], limit: usize, number: usize, out: &mut [i64]) -> Result<usize, Refusal>
     ensures answer { outcome result ≡ frame_outcome (F.read limit file.now) number
         (length out.old) }
     ensures output { out.new ≡ frame_output (F.read limit file.now) number
         out.old }
 {
-    let numbered = cbf_reader::numbered_section(file, limit, number);
-    match numbered {
-        Numbered::Refused(r) => Answer::Refused(r),
-        Numbered::As(s) => placed(unpack_octets(file, s, out), s.first),
-    }
+    let s = cbf_reader::numbered_section(file, limit, number)?;
+    placed(unpack_octets(file, s, out), s.first)
 }

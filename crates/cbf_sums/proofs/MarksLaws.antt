@@ -1,7 +1,7 @@
 -- Marks of escapes, and what an octet adds by them. Assumes nothing.
-use Rattle.std.proofs.Common.{◌≡◌, ℕ, ◌+◌, ◌-◌, ◌*◌, ◌<◌, Bool, true, false, cond, ltb, List, length, get_or, replicate, refl, ap, ◌∙◌, subst, ap₂, inl, inr, add-one, arith, below_more, ltb-false, ltb-true}
+use Rattle.std.proofs.Common.{◌≡◌, ℕ, zero, suc, ◌+◌, ◌-◌, ◌<◌, ◌≤◌, Bool, true, false, cond, ltb, List, length, get_or, replicate, refl, ap, ◌∙◌, subst, ap₂, inl, inr, add-one, arith, below_more, ltb-false, ltb-true}
 use lib.ListN.{get_or-replicate}
-use Rattle.cbf_sums.specs.Mixed.{mark_at, IsMark, end_mark, ends_to, choose, sign_of, joined_at, added_at, Addends}
+use Rattle.cbf_sums.specs.Mixed.{mark_at, IsMark, EachMark, Apart, end_mark, ends_to, choose, sign_of, added_at, Addends}
 use lib.Bits.{bit_and, bit_or, bit_xor, and_mask, and_zero_r, or_zero_r}
 use Rattle.cbf_sums.specs.Summing.{Written}
 use Rattle.cbf_pixels.proofs.Bitwise.{or_left, or_right}
@@ -29,6 +29,33 @@ pub ends_more : (ms : List ℕ) (j : ℕ) → ends_to ms (j + 1) ≡ ends_to ms 
 unfolding ends_to
 ends_more ms j = ap (ends_to ms) (add-one j)
 
+ends-least : (ms : List ℕ) (n m : ℕ) → ends_to ms n ≤ ends_to ms (n + m)
+ends-least ms n zero = let e : n ≡ n + 0 = omega arith in omega (arith, ap (ends_to ms) e)
+ends-least ms n (suc m) =
+    let e : n + m + 1 ≡ n + suc m = omega arith in
+    omega (arith, ends-least ms n m, ends_more ms (n + m), ap (ends_to ms) e)
+
+-- of four octets where no escape stands within two behind another, the second, third or fourth ends a difference
+one-ends : (a b c d : ℕ) → IsMark a → IsMark b → IsMark c → IsMark d → bit_and c (bit_or b a) ≡ 0 → bit_and d (bit_or c b) ≡ 0
+    → 0 < end_mark a b + end_mark b c + end_mark c d
+unfolding end_mark
+one-ends a b c d (inl p) (inl q) r s u v = rw (p, q) (omega arith)
+one-ends a b c d p (inl q) (inl r) s u v = rw (q, r) (omega arith)
+one-ends a b c d p q (inl r) (inl s) u v = rw (r, s) (omega arith)
+one-ends a b c d (inr p) (inl q) (inr r) s u v = let w = rw (p, q, r) at u in cc
+one-ends a b c d (inl p) (inr q) (inl r) (inr s) u v = let w = rw (q, r, s) at v in cc
+one-ends a b c d (inl p) (inr q) (inr r) s u v = let w = rw (p, q, r) at u in cc
+one-ends a b c d (inr p) (inr q) (inl r) (inr s) u v = let w = rw (q, r, s) at v in cc
+one-ends a b c d (inr p) (inr q) (inr r) s u v = let w = rw (p, q, r) at u in cc
+
+-- a difference ends in octets where no escape stands within two behind another
+pub some-end : (ms : List ℕ) → EachMark ms → Apart ms → 0 < ends_to ms 192
+some-end ms each apart =
+    let at = λ (k : ℕ). get_or ms k 0 in
+    let one = one-ends (at 17) (at 18) (at 19) (at 20) (each 17 (omega arith)) (each 18 (omega arith)) (each 19 (omega arith))
+    (each 20 (omega arith)) (apart 3 (omega arith)) (apart 4 (omega arith)) in
+    omega (arith, one, ends_more ms 2, ends_more ms 3, ends_more ms 4, ends-least ms 5 187)
+
 -- ---- what octets add
 
 all_of : (x : ℕ) → x < 256 → bit_and x 255 ≡ x
@@ -54,11 +81,6 @@ chosen_is a b c x y (inr p) (inl q) (inl r) h k = rw (p, q, r) (second-of x y k)
 chosen_is a b c x y (inr p) (inl q) (inr r) h k = rw (p, q, r) (second-of x y k)
 chosen_is a b c x y (inr p) (inr q) (inl r) h k = rw (p, q, r) (second-of x y k)
 chosen_is a b c x y (inr p) (inr q) (inr r) h k = rw (p, q, r) (second-of x y k)
-
--- a low and a high octet make a number
-pub joined_is : {f g : ℕ → ℕ} {n size : ℕ} {low₀ low high₀ high added₀ added : List ℕ} → Written f n size low₀ low → Written g n size high₀ high
-    → Written (joined_at low high) n size added₀ added → Written (λ j. f j + 256 * g j) n size added₀ added
-joined_is L H W = record { is = λ j h. W.is j h ∙ ap₂ (λ (u v : ℕ). u + 256 * v) (L.is j h) (H.is j h); same = W.same; long = W.long }
 
 -- ---- arrays of 208 that are 0 at first
 

@@ -44,15 +44,6 @@ each-mark os i ms M k h = go (ltb k 16) refl
         let e : 16 + (k - 16) ≡ k = omega arith in
         subst IsMark (sym (M.mark (k - 16) (omega arith)) ∙ ap (λ (n : ℕ). get_or ms n 0) e) (from (mark-of (get_or os (i + (k - 16)) 0)))
 
-pub whole-most : (ms : List ℕ) → whole_octets ms ≤ 192
-unfolding whole_octets
-whole-most ms = go (ltb 0 (get_or ms 207 0)) (ltb 0 (get_or ms 206 0))
-  where
-    go : (t u : Bool) → cond t 191 (cond u 190 192) ≤ 192
-    go true u = omega arith
-    go false true = omega arith
-    go false false = omega arith
-
 -- an escape stands within two behind another
 crowded : (a b c : ℕ) → c ≡ 255 → bit_or b a ≡ 255 → bit_and c (bit_or b a) ≡ 0 → ⊥
 crowded a b c e f h = let x : ◌≡◌ {A = ℕ} 255 0 = sym (ap₂ bit_and e f) ∙ h in omega arith

@@ -25,10 +25,6 @@ written-more f j size before xs x W l e =
       long = length-set xs (16 + j) x ∙ W.long;
     }
 
--- the first n of them
-pub written-first : {f : ℕ → ℕ} {j size : ℕ} {before xs : List ℕ} (n : ℕ) → Written f j size before xs → n ≤ j → Written f n size before xs
-written-first n W l = record { is = λ k h. W.is k (omega arith); same = W.same; long = W.long }
-
 -- the bitwise or is at least each of them
 pub under_more : (xs : List ℕ) (j all x : ℕ) → 16 + j < length xs → ((k : ℕ) → k < j → get_or xs (16 + k) 0 ≤ all)
     → (k : ℕ) → k < j + 1 → get_or (set xs (16 + j) x) (16 + k) 0 ≤ bit_or all x

@@ -1,5 +1,5 @@
 -- The first pass: biased pixels, one at a time, many, and in parts. Assumes nothing.
-use Rattle.std.proofs.Common.{◌≡◌, ℕ, suc, ◌+◌, ◌-◌, ◌*◌, ◌^◌, ◌<◌, ◌≤◌, Bool, true, false, cond, ltb, leb, List, [], ◌∷◌, length, drop, ℤ, pos, negsuc, ◌+ℤ◌, neg_ℤ, nat_abs, sym, refl, ap, ◌∙◌, subst, ap₂, inl, inr, arith, ltb-false, ltb-true, le-leb, leb-false, leb-true}
+use Rattle.std.proofs.Common.{◌≡◌, ℕ, suc, ◌+◌, ◌-◌, ◌*◌, ◌^◌, ◌<◌, ◌≤◌, Bool, true, false, cond, ltb, leb, List, [], ◌∷◌, drop, ℤ, pos, negsuc, ◌+ℤ◌, neg_ℤ, nat_abs, sym, refl, ap, ◌∙◌, subst, ap₂, inl, inr, arith, ltb-false, ltb-true, le-leb, leb-false, leb-true}
 use lib.IntN.{sub_ℕ, +ℤ_comm, +ℤ_assoc, neg_ℤ-+ℤ}
 use lib.Signed.{le_z}
 use borrow.Author.Tests.{lt-leb}
@@ -10,7 +10,7 @@ use Rattle.cbf_pixels.specs.PixelCalls.{is_some}
 use Rattle.cbf_octets.specs.Rest.{rest, Enough}
 use Rattle.cbf_octets.specs.Difference.{clamped, Took}
 use Rattle.cbf_sums.specs.Passes.{biased_least, biased_zero, biased_greatest, pixel_at, Top, Between, Passes, Fails}
-use Rattle.cbf_sums.specs.Passes.{Passed}
+use Rattle.cbf_sums.specs.Passes.{Failed, Passed}
 use Rattle.cbf_pixels.proofs.Integers.{subℕ-pos, subℕ-neg}
 use Rattle.cbf_octets.proofs.DifferenceLaws.{pos-sub, clamped-near, clamped-far}
 use Rattle.cbf_octets.proofs.RestLaws.{some-onto, whole_here, rest-next, rest-outside, rest-run-out}
@@ -263,31 +263,24 @@ module _ (top : ℕ) (os : List ℕ) (biased i : ℕ) where
   fails_more n m tail h p t e r =
       counts t os tail (pixel_at t biased) i (m + r) (n + (m - n + r)) (omega arith) ∙ p t e (m - n + r)
 
-  -- what a step answers
-  pub passed-not : (n j : ℕ) → ((tail : List ℕ) → Enough os tail i 480 → Fails top os tail biased i n) → j ≤ length os → Passed top os biased i n 0 j
-  passed-not n j f h = record { failed = λ _. f; passed = λ z. absurd (z refl); inside = h }
-
-  pub passed_to : (n biased' j : ℕ) → Between top biased' → Passes top os biased i n biased' j → j ≤ length os → Passed top os biased i n biased' j
-  passed_to n biased' j b p h =
-      record { failed = λ z. let l = b.0 in let y : ⊥ = omega arith in absurd y; passed = λ _. (b, p); inside = h }
-
   -- n pixels more
-  pub passed-more : (m n biased' j biased'' k : ℕ) → Passes top os biased i m biased' j → ((tail : List ℕ) → Enough os tail i 480 → Enough os tail j 480)
-      → Passed top os biased' j n biased'' k → Passed top os biased i (m + n) biased'' k
-  passed-more m n biased' j biased'' k p e q =
-      record {
-        failed = λ z tail w. passes-fails m n biased' j tail p (q.failed z tail (e tail w));
-        passed = λ z. ((q.passed z).0, passes-passes m n biased' j biased'' k p (q.passed z).1);
-        inside = q.inside;
-      }
+  pub passed-more : (m n biased' j biased'' k : ℕ) → Passes top os biased i m biased' j → Passed top os biased' j n biased'' k
+      → Passed top os biased i (m + n) biased'' k
+  passed-more m n biased' j biased'' k p q =
+      record { between = q.between; passes = passes-passes m n biased' j biased'' k p q.passes; inside = q.inside }
+
+  pub failed-more : (m n left biased' j : ℕ) → Passes top os biased i m biased' j → ((tail : List ℕ) → Enough os tail i 480 → Enough os tail j 480)
+      → m + n ≤ left → Failed top os biased' j n → Failed top os biased i left
+  failed-more m n left biased' j p e h f tail w =
+      fails_more (m + n) left tail h (passes-fails m n biased' j tail p (f tail (e tail w)))
 
   -- after m pixels, for which there were octets enough
-  pub passed-stop : (n m biased' j : ℕ) → Passes top os biased i m biased' j → j ≤ i + 15 * m
+  pub failed-stop : (n m biased' j : ℕ) → Passes top os biased i m biased' j → j ≤ i + 15 * m
       → ((tail : List ℕ) → Enough os tail j 15 → Fails top os tail biased' j 1) → m < n → n ≤ 32
-      → Passed top os biased i n 0 0
-  passed-stop n m biased' j p r f h l =
-      passed-not n 0 (λ tail w. fails_more (m + 1) n tail (omega arith) (passes-fails m 1 biased' j tail p (f tail (left tail w)))) (omega arith)
+      → Failed top os biased i n
+  failed-stop n m biased' j p r f h l tail w =
+      fails_more (m + 1) n tail (omega arith) (passes-fails m 1 biased' j tail p (f tail (left w)))
     where
-      left : (tail : List ℕ) → Enough os tail i 480 → Enough os tail j 15
-      left tail (inl e) = inl e
-      left tail (inr e) = inr (omega arith)
+      left : Enough os tail i 480 → Enough os tail j 15
+      left (inl e) = inl e
+      left (inr e) = inr (omega arith)

@@ -1,11 +1,12 @@
 -- The first pass of unpacking. It holds a pixel "biased": as its distance above the type's least one, plus 2^40.
 -- Nothing here is part of what the public calls promise.
-use Rattle.std.specs.Prelude.{◌≡◌, ℕ, ◌+◌, ◌*◌, ◌^◌, ◌≤◌, false, List, length, ℤ, ◌≢◌}
+use Rattle.std.specs.Prelude.{◌≡◌, ℕ, ◌+◌, ◌*◌, ◌^◌, ◌≤◌, false, List, length, ℤ, Option, MatchOption}
 use Rattle.std.proofs.Math.IntN.{sub_ℕ}
 use Rattle.cbf_pixels.specs.PixelCalls.{is_some}
 use Rattle.cbf_pixels.specs.declared.ElementType.{ElementType}
 use Rattle.cbf_pixels.specs.declared.ElementType.TheVariants.{U8, S8, U16, S16, U32, S32}
 use Rattle.cbf_octets.specs.Rest.{rest, Enough}
+use Rattle.cbf_sums.specs.declared.State.{State}
 
 abbrev pub biased_least : ℕ
 biased_least = 1099511627776
@@ -53,9 +54,17 @@ Passes top os biased i n biased' j =
 unfoldable pub Fails : ℕ → List ℕ → List ℕ → ℕ → ℕ → ℕ → Type 0
 Fails top os tail biased i n = (t : ElementType) → biased_greatest t ≡ top → (m : ℕ) → is_some (rest t os tail (pixel_at t biased) i (n + m)) ≡ false
 
--- what a step of the first pass answers: 0 for pixels that do not unpack, else where the n pixels lead. Octets for 32
--- pixels of 15 are there, or nothing is behind the octets.
+-- the n pixels from the octet i on do not unpack. Octets for 32 pixels of 15 are there, or nothing is behind the
+-- octets.
+abbrev pub Failed : ℕ → List ℕ → ℕ → ℕ → ℕ → Type 0
+Failed top os biased i n = (tail : List ℕ) → Enough os tail i 480 → Fails top os tail biased i n
+
+-- where the n pixels from the octet i on lead: to biased' and the octet j
 pub record Passed (top : ℕ) (os : List ℕ) (biased i n biased' j : ℕ) : Type 0 where
-  pub failed : biased' ≡ 0 → (tail : List ℕ) → Enough os tail i 480 → Fails top os tail biased i n
-  pub passed : (biased' ≢ 0) → Between top biased' × Passes top os biased i n biased' j
+  pub between : Between top biased'
+  pub passes : Passes top os biased i n biased' j
   pub inside : j ≤ length os
+
+-- what a step of the first pass says of the n pixels after a state: where they lead, or that they do not unpack
+abbrev pub Stepped : ℕ → List ℕ → State → ℕ → Option State → Type 0
+Stepped top os at n r = MatchOption r (Failed top os at.biased at.next n) (λ to. Passed top os at.biased at.next n to.biased to.next)

@@ -11,13 +11,7 @@ pub fn base_of(biased: u64, top: u64, half: u64) -> u64
     requires { Top top × Between top biased × (0 < half) × (biased_least + 2 * half ≤ top + 1) }
     ensures { Base top biased half result }
 {
-    if biased < BIASED_LEAST + half {
-        return BIASED_LEAST;
-    }
-    if top < biased + half {
-        return top - (2 * half - 1);
-    }
-    biased - half
+    (biased - half).clamp(BIASED_LEAST, top + 1 - 2 * half)
 }
 
 // Whether both ends of the type are distance away, or more.
@@ -25,8 +19,5 @@ pub fn is_far(biased: u64, top: u64, distance: u64) -> bool
     requires { (biased ≤ 2 ^ 42) × (distance ≤ 2 ^ 32) }
     ensures { result ≡ true → (biased_least + distance ≤ biased) × (biased + distance ≤ top) }
 {
-    if biased < BIASED_LEAST + distance {
-        return false;
-    }
-    biased + distance <= top
+    BIASED_LEAST + distance <= biased && biased + distance <= top
 }

@@ -5,3 +5,10 @@
 pub mod far;
 pub mod mixed;
 pub mod near;
+
+// Where the first pass stands: the last pixel, biased, and where the next difference starts.
+#[derive(Clone, Copy, Debug, PartialEq, Eq)]
+pub struct State {
+    pub biased: u64,
+    pub next: usize,
+}

@@ -5,8 +5,8 @@ use native.Mathlib.Omega.{arith}
 use mathlib.Core.Path.{◌≡◌, refl, sym, ap, ◌∙◌, subst}
 use mathlib.Core.List.{List, [], ◌∷◌, ◌++◌, append-nil}
 use mathlib.Core.Bool.{Bool, true, false}
-use mathlib.Core.Logic.{◌⊎◌, inl, inr}
-use mathlib.Core.Option.{Option, some}
+use Rattle.std.specs.Prelude.{Option, None, Some}
+use Rattle.std.proofs.lemmas.Option.{none-some}
 use lib.Dec.{eqb, lit<}
 use lib.ListN.{length, take, drop, length-append}
 use lib.Seq.{sets, slice, sets-eq, length-sets, length-take-le}
@@ -14,20 +14,22 @@ use lib.IntN.{ℤ, pos}
 use lib.Signed.{mag}
 use mir.Syntax.{w64}
 use mir.Val.{to_z, of_z}
-use borrow.Author.Tests.{eqb-true, eqb-false}
+use borrow.Author.Tests.{eqb-true}
 use Rattle.cbf_pixels.specs.declared.ElementType.{ElementType}
 use Rattle.cbf_octets.specs.declared.Part.{Part}
 use Rattle.cbf_pixels.specs.Pixels.{within, least, greatest, unpack_from, unpack_byte_offset}
 use Rattle.cbf_pixels.specs.PixelCalls.{is_some, pixels_of}
-use Rattle.cbf_octets.specs.Rest.{rest, onto_pixels, Behind, Stopped}
-use Rattle.cbf_unpack.specs.Fill.{Fillable}
-use Rattle.cbf_pixels.proofs.Integers.{never, within-small, held}
+use Rattle.cbf_octets.specs.Rest.{rest, onto_pixels, Behind}
+use Rattle.cbf_validate.specs.Validate.{Valid}
+use Rattle.cbf_unpack.specs.Fill.{Fillable, FilledPart}
+use Rattle.cbf_pixels.proofs.Integers.{within-small, held}
 use Rattle.cbf_answers.proofs.Stores.{sets-append}
 use Rattle.cbf_octets.proofs.RestLaws.{some-onto, rest_end_lem}
 use Rattle.cbf_validate.proofs.ValidateLaws.{zero-within}
 use Rattle.cbf_unpack.proofs.FillLaws.{onto-onto, onto-nil, rest-empty}
 use Rattle.cbf_letters.specs.Octets.{text_octets}
-use Rattle.cbf_text.specs.TextWindow.{content, Holds}
+use Rattle.cbf_text.specs.TextWindow.{content, Holds, Refilled, fresh}
+use Rattle.cbf_text.proofs.TextWindowLaws.{fresh-holds}
 use Rattle.cbf_text.specs.ByteOffsetText.{PartSays, pass_output}
 use Rattle.cbf_text.specs.declared.text_window.Window.{Window}
 
@@ -74,93 +76,80 @@ module _ {writing : Bool} {t : ElementType} {all left : Option (List ℤ)} {out�
   done-small = by_bool writing (λ e. within-small t z (d.validated e).typed) (λ e. (d.written e).small)
 
 -- ---- one part
-module _ {writing : Bool} {t : ElementType} {all : Option (List ℤ)} {os tail : List ℕ} {ended : Bool} {out₀ out out' : List ℤ} {z : ℤ} {i n k : ℕ} {p : Part}
-    (b : Behind ended tail) (d : Done writing t all (rest t os tail z i n) out₀ out z k) (s : PartSays writing t os ended z i n k out out' p) where
-  pub part_length : length out' ≡ length out₀
-  part_length =
-      by_bool writing (λ e. ap length (s.valid e).1) (λ e. ap length (s.filled e).wrote ∙ length-sets out k (s.filled e).pixels) ∙ done-length d
-
-  pub part-few : (p.count ≤ n) × (p.last.next ≤ length os)
-  part-few = by_bool writing (λ e. let v = (s.valid e).0 in (v.few, v.inside)) (λ e. let f = s.filled e in (f.few, f.inside))
-
-  pub part_then_lem : (writing ≡ true → is_some all ≡ true) → p.good ≡ true
-      → Done writing t all (rest t os tail p.last.pixel p.last.next (n - p.count)) out₀ out' p.last.pixel (k + p.count)
-  part_then_lem a g =
-      record {
-        validated = λ e.
-            let v = s.valid e in
-            let o = d.validated e in
-            record { same = o.same ∙ v.0.passed g tail b; kept = v.1 ∙ o.kept; typed = v.0.typed g };
-        written = λ e.
-            let f = s.filled e in
-            let o = d.written e in
-            let l = rest t os tail p.last.pixel p.last.next (n - p.count) in
-            let here : k ≡ 0 + length o.pixels = omega (arith, o.many) in
-            record {
-              pixels = o.pixels ++ f.pixels;
-              many = omega (arith, length-append o.pixels f.pixels, o.many, f.many);
-              wrote = f.wrote ∙ ap (λ (x : List ℤ). sets x k f.pixels) o.wrote
-                  ∙ ap (λ (x : ℕ). sets (sets out₀ 0 o.pixels) x f.pixels) here ∙ sets-append out₀ 0 o.pixels
-                  f.pixels;
-              says = o.says ∙ ap (onto_pixels o.pixels) (f.leads t tail b (sym (left-same d) ∙ a e)) ∙ onto-onto o.pixels f.pixels l;
-              small = f.after;
-            };
-      }
-
+module _ {writing : Bool} {t : ElementType} {all : Option (List ℤ)} {os tail : List ℕ} {ended : Bool} {out₀ out out' : List ℤ} {z : ℤ} {i n k : ℕ} {r : Option Part}
+    (b : Behind ended tail) (d : Done writing t all (rest t os tail z i n) out₀ out z k) (s : PartSays writing t os ended z i n k out out' r) where
   -- a part that does not unpack: nothing was written
-  pub part-fails : p.good ≡ false → (false ≡ is_some all) × (writing ≡ false) × (out' ≡ out₀)
+  pub part-fails : r ≡ None → (false ≡ is_some all) × (writing ≡ false) × (out' ≡ out₀)
   part-fails g =
       by_bool writing
-      (λ e. let v = s.valid e in let o = d.validated e in (sym (o.same ∙ v.0.failed g tail b), e, v.1 ∙ o.kept))
-      (λ e. never (sym g ∙ (s.filled e).good))
+      (λ e. let v = s.valid e in let o = d.validated e in let w = rw g at v.0 in (sym (o.same ∙ w tail b), e, v.1 ∙ o.kept))
+      (λ e. let f = s.filled e in let q : Some f.0 ≡ None = sym f.1 ∙ g in absurd (none-some f.0 (sym q)))
 
-  -- each part does something
-  pub part-moves : 0 < n → (ended ≡ false → i + 480 ≤ length os) → p.good ≡ true → 0 < p.count
-  part-moves h l g = by_bool writing (λ e. let v = (s.valid e).0 in go v.still (v.stopped g)) (λ e. let f = s.filled e in go f.still f.stopped)
-    where
-      go : (p.count ≡ 0 → p.last.next ≤ i) → Stopped os ended n p.count p.last.next → 0 < p.count
-      go st (inl e) = omega arith
-      go st (inr w) = more (eqb p.count 0) refl
-        where
-          more : (c : Bool) → eqb p.count 0 ≡ c → 0 < p.count
-          more true q = let z = eqb-true p.count 0 q in omega (arith, st z, l w.0, w.1)
-          more false q = let z = eqb-false p.count 0 q in omega arith
+  module _ {p : Part} (g : r ≡ Some p) where
+    valid_part : writing ≡ false → Valid t os ended z i n p
+    valid_part e = rw g at (s.valid e).0
+
+    filled_part : writing ≡ true → FilledPart os ended z i n k out out' p
+    filled_part e = let f = s.filled e in let q : f.0 ≡ p = cc (f.1, g) in rw q at f.2
+
+    pub part-few : (p.count ≤ n) × (p.last.next ≤ length os)
+    part-few = by_bool writing (λ e. let v = valid_part e in (v.few, v.inside)) (λ e. let f = filled_part e in (f.few, f.inside))
+
+    pub part_then_lem : (writing ≡ true → is_some all ≡ true)
+        → Done writing t all (rest t os tail p.last.pixel p.last.next (n - p.count)) out₀ out' p.last.pixel (k + p.count)
+    part_then_lem a =
+        record {
+          validated = λ e.
+              let v = valid_part e in
+              let o = d.validated e in
+              record { same = o.same ∙ v.passed tail b; kept = (s.valid e).1 ∙ o.kept; typed = v.typed };
+          written = λ e.
+              let f = filled_part e in
+              let o = d.written e in
+              let l = rest t os tail p.last.pixel p.last.next (n - p.count) in
+              let here : k ≡ 0 + length o.pixels = omega (arith, o.many) in
+              record {
+                pixels = o.pixels ++ f.pixels;
+                many = omega (arith, length-append o.pixels f.pixels, o.many, f.many);
+                wrote = f.wrote ∙ ap (λ (x : List ℤ). sets x k f.pixels) o.wrote
+                    ∙ ap (λ (x : ℕ). sets (sets out₀ 0 o.pixels) x f.pixels) here ∙ sets-append out₀ 0 o.pixels
+                    f.pixels;
+                says = o.says ∙ ap (onto_pixels o.pixels) (f.leads t tail b (sym (left-same d) ∙ a e)) ∙ onto-onto o.pixels f.pixels l;
+                small = f.after;
+              };
+        }
 
 -- ---- the text
 
 -- what is left to unpack after z: n pixels, of what the window holds
-abbrev pub left_of : ElementType → List ℕ → ℕ → List ℕ → Window → ℤ → ℕ → Option (List ℤ)
-left_of t file to window w z n = rest t (take w.have window) (take w.left (text_octets file w.at to)) z w.next n
+abbrev pub left_of : ElementType → List ℕ → ℕ → Window → ℤ → ℕ → Option (List ℤ)
+left_of t file to w z n = rest t (take w.have w.octets) (take w.left (text_octets file w.at to)) z w.next n
 
 -- what holds at each turn
 pub record Passing (t : ElementType) (file : List ℕ) (from to count : ℕ) (writing : Bool) (all : Option (List ℤ))
-    (out₀ out : List ℤ) (window : List ℕ) (w : Window) (z : ℤ) (k : ℕ) : Type 0 where
-  pub holds : Holds file to window w
+    (out₀ out : List ℤ) (w : Window) (z : ℤ) (k : ℕ) : Type 0 where
+  pub holds : Holds file to w
   pub low : from ≤ w.at
   pub few : k ≤ count
-  pub wide : length window ≡ 1536
-  pub done : Done writing t all (left_of t file to window w z (count - k)) out₀ out z k
+  pub done : Done writing t all (left_of t file to w z (count - k)) out₀ out z k
 
 module _ {t : ElementType} {file : List ℕ} {from to count : ℕ} {writing : Bool} {all : Option (List ℤ)} {out₀ out : List ℤ} where
   -- the window was filled again
-  pub refilled : {window window' : List ℕ} {w r : Window} {z : ℤ} {k : ℕ} → Passing t file from to count writing all
-      out₀ out window w z k → Holds file to window' r
-      → content file to window' r ≡ content file to window w → w.at ≤ r.at → length window' ≡ length window
-      → Passing t file from to count writing all out₀ out window' r z k
+  pub refilled : {w r : Window} {z : ℤ} {k : ℕ} → Passing t file from to count writing all out₀ out w z k → Refilled file to w r
+      → Passing t file from to count writing all out₀ out r z k
   unfolding rest
-  refilled {z = z} {k = k} s holds same onward wide =
+  refilled {z = z} {k = k} s R =
       record {
-        holds = holds;
-        low = omega (arith, s.low);
+        holds = R.holds;
+        low = omega (arith, s.low, R.onward);
         few = s.few;
-        wide = wide ∙ s.wide;
-        done = subst (λ (l : List ℕ). Done writing t all (unpack_from (least t) (greatest t) z (count - k) l) out₀ out z k) (sym same) s.done;
+        done = subst (λ (l : List ℕ). Done writing t all (unpack_from (least t) (greatest t) z (count - k) l) out₀ out z k) (sym R.same) s.done;
       }
 
-  module _ {window : List ℕ} {w : Window} {z : ℤ} {k : ℕ} (s : Passing t file from to count writing all out₀ out window w z k) where
+  module _ {w : Window} {z : ℤ} {k : ℕ} (s : Passing t file from to count writing all out₀ out w z k) where
     -- the octets of the window
-    pub there : length (take w.have window) ≡ w.have
-    there = length-take-le w.have window s.holds.high
+    pub there : length (take w.have w.octets) ≡ w.have
+    there = length-take-le w.have w.octets s.holds.high
 
     behind : Behind (eqb w.left 0) (take w.left (text_octets file w.at to))
     behind e = ap (λ (n : ℕ). take n (text_octets file w.at to)) (eqb-true w.left 0 e)
@@ -170,24 +159,24 @@ module _ {t : ElementType} {file : List ℕ} {from to count : ℕ} {writing : Bo
       none_left : count - k ≡ 0
       none_left = omega arith
 
-      ended_is : Done writing t all (left_of t file to window w z 0) out₀ out z k
-      ended_is = subst (λ (n : ℕ). Done writing t all (left_of t file to window w z n) out₀ out z k) none_left s.done
+      ended_is : Done writing t all (left_of t file to w z 0) out₀ out z k
+      ended_is = subst (λ (n : ℕ). Done writing t all (left_of t file to w z n) out₀ out z k) none_left s.done
 
       pub ends : w.left ≡ 0 → eqb w.next w.have ≡ is_some all
       ends e =
           sym (left-same ended_is
-          ∙ ap (λ (n : ℕ). is_some (rest t (take w.have window) (take n (text_octets file w.at to)) z w.next 0)) e
-          ∙ rest_end_lem t (take w.have window) z w.next (omega (arith, there, s.holds.low))
+          ∙ ap (λ (n : ℕ). is_some (rest t (take w.have w.octets) (take n (text_octets file w.at to)) z w.next 0)) e
+          ∙ rest_end_lem t (take w.have w.octets) z w.next (omega (arith, there, s.holds.low))
           ∙ ap (eqb w.next) there)
 
       pub ends-not : (w.left ≡ 0 → ⊥) → false ≡ is_some all
       unfolding rest
       ends-not e =
           sym (left-same ended_is
-          ∙ remain t z (content file to window w)
+          ∙ remain t z (content file to w)
           (omega (
             arith,
-            length-append (slice w.next w.have window)
+            length-append (slice w.next w.have w.octets)
                 (take w.left (text_octets file w.at to)),
             length-take-le w.left (text_octets file w.at to)
                 s.holds.enough,
@@ -202,7 +191,7 @@ module _ {t : ElementType} {file : List ℕ} {from to count : ℕ} {writing : Bo
           let o = ended_is.written e in
           let ps = o.pixels in
           let m : 0 + length ps ≡ count = omega (arith, o.many, s.few) in
-          let q : all ≡ some (ps ++ []) = o.says ∙ ap (onto_pixels ps) (rest-empty t (take w.have window)
+          let q : all ≡ Some (ps ++ []) = o.says ∙ ap (onto_pixels ps) (rest-empty t (take w.have w.octets)
           (take w.left (text_octets file w.at to)) z w.next (sym (left-same ended_is) ∙ (a e).1)) in
           rw e
           (o.wrote
@@ -212,11 +201,11 @@ module _ {t : ElementType} {file : List ℕ} {from to count : ℕ} {writing : Bo
 
     -- the next part
     module _ (f : w.next ≡ 0) where
-      here : Done writing t all (rest t (take w.have window) (take w.left (text_octets file w.at to)) z 0 (count - k)) out₀ out z k
-      here = subst (λ (n : ℕ). Done writing t all (rest t (take w.have window)
+      here : Done writing t all (rest t (take w.have w.octets) (take w.left (text_octets file w.at to)) z 0 (count - k)) out₀ out z k
+      here = subst (λ (n : ℕ). Done writing t all (rest t (take w.have w.octets)
           (take w.left (text_octets file w.at to)) z n (count - k)) out₀ out z k) f s.done
 
-      pub fillable : count ≤ length out₀ → is_some all ≡ true → Fillable (take w.have window) (eqb w.left 0) z 0
+      pub fillable : count ≤ length out₀ → is_some all ≡ true → Fillable (take w.have w.octets) (eqb w.left 0) z 0
           (count - k) × (k + (count - k) ≤ length out)
       fillable l a = (
         record {
@@ -229,61 +218,53 @@ module _ {t : ElementType} {file : List ℕ} {from to count : ℕ} {writing : Bo
         omega (arith, done-length here, s.few),
       )
 
-      module _ {out' : List ℤ} {p : Part} (ps : PartSays writing t (take w.have window) (eqb w.left 0) z 0 (count - k) k out out' p) where
-        pub turn-length : length out' ≡ length out₀
-        turn-length = part_length behind here ps
+      module _ {out' : List ℤ} {r : Option Part} (ps : PartSays writing t (take w.have w.octets) (eqb w.left 0) z 0 (count - k) k out out' r) where
+        pub turn-fails : r ≡ None → (false ≡ is_some all) × (out' ≡ pass_output writing all count out₀)
+        turn-fails g = let q = part-fails behind here ps g in (q.0, rw q.1 q.2)
 
-        pub turn-few : p.count ≤ count - k
-        turn-few = (part-few behind here ps).0
-
-        pub turn-fails : p.good ≡ false → (false ≡ is_some all) × (out' ≡ pass_output writing all count out₀)
-        turn-fails g = let r = part-fails behind here ps g in (r.0, rw r.1 r.2)
-
-        pub turn-moves : k < count → (w.left ≡ 0) ⊎ (length window < w.have + 3) → p.good ≡ true → 0 < p.count
-        turn-moves h l g = part-moves behind here ps (omega arith) (enough l) g
-          where
-            enough : (w.left ≡ 0) ⊎ (length window < w.have + 3) → eqb w.left 0 ≡ false → 0 + 480 ≤ length (take w.have window)
-            enough (inl z) n = absurd (eqb-false w.left 0 n z)
-            enough (inr h) n = omega (arith, there, s.wide)
-
-        pub turned : (writing ≡ true → is_some all ≡ true) → p.good ≡ true
-            → Passing t file from to count writing all out₀ out' window (record {
-              at = w.at;
-              left = w.left;
-              next =
-                  p.last.next;
-              have = w.have;
-            }) (to_z w64 (of_z w64 p.last.pixel)) (k + p.count)
-        turned a g =
-            let d = part_then_lem behind here ps a g in
-            let m = part-few behind here ps in
-            let c : count - k - p.count ≡ count - (k + p.count) = omega arith in
-            let v : to_z w64 (of_z w64 p.last.pixel) ≡ p.last.pixel = held p.last.pixel (omega (arith, done-small d)) in
-            record {
-              holds = record { low = omega (arith, m.1, there); high = s.holds.high; begun = s.holds.begun; enough = s.holds.enough };
-              low = s.low;
-              few = omega (arith, m.0, s.few);
-              wide = s.wide;
-              done = rw (v, ← c) d;
-            }
+        module _ {p : Part} (g : r ≡ Some p) where
+          pub turned : (writing ≡ true → is_some all ≡ true)
+              → Passing t file from to count writing all out₀ out' (record {
+                octets = w.octets;
+                at = w.at;
+                left = w.left;
+                next = p.last.next;
+                have = w.have;
+              }) (to_z w64 (of_z w64 p.last.pixel)) (k + p.count)
+          turned a =
+              let d = part_then_lem behind here ps g a in
+              let m = part-few behind here ps g in
+              let c : count - k - p.count ≡ count - (k + p.count) = omega arith in
+              let v : to_z w64 (of_z w64 p.last.pixel) ≡ p.last.pixel = held p.last.pixel (omega (arith, done-small d)) in
+              record {
+                holds = record {
+                  low = omega (arith, m.1, there);
+                  high = s.holds.high;
+                  begun = s.holds.begun;
+                  enough = s.holds.enough;
+                  wide = s.holds.wide;
+                };
+                low = s.low;
+                few = omega (arith, m.0, s.few);
+                done = rw (v, ← c) d;
+              }
 
 -- before the first turn
 pub starts : (t : ElementType) (file : List ℕ) (from to size count : ℕ) (writing : Bool) (out : List ℤ)
-    (window : List ℕ) → from ≤ to → size ≤ length (text_octets file from to) → length window ≡ 1536
-    → Passing t file from to count writing (unpack_byte_offset t count (take size (text_octets file from to))) out out
-    window (record { at = from; left = size; next = 0; have = 0 }) (pos 0) 0
+    {w : Window} → w ≡ fresh from size → from ≤ to → size ≤ length (text_octets file from to)
+    → Passing t file from to count writing (unpack_byte_offset t count (take size (text_octets file from to))) out out w (pos 0) 0
 unfolding rest unpack_byte_offset
-starts t file from to size count writing out window h l wide =
+starts t file from to size count writing out q h l =
     let c : count - 0 ≡ count = omega arith in
     let all = unpack_from (least t) (greatest t) (pos 0) count (take size (text_octets file from to)) in
-    record {
-      holds = record { low = omega arith; high = omega arith; begun = h; enough = l };
+    rw q
+    (record {
+      holds = fresh-holds h l;
       low = omega arith;
       few = omega arith;
-      wide = wide;
       done = rw c
           (record {
             validated = λ _. record { same = refl; kept = refl; typed = zero-within t };
             written = λ _. record { pixels = []; many = refl; wrote = refl; says = onto-nil all; small = lit< tt };
           });
-    }
+    })

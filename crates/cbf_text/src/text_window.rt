@@ -1,60 +1,47 @@
 // A window of octets, filled again and again from a text.
-ghost use Rattle.std.specs.Prelude.{◌≡◌, ◌⊎◌, ◌+◌, ◌-◌, ◌<◌, ◌≤◌, length, take};
-ghost use Rattle.std.proofs.Math.Seq.{slice};
+ghost use Rattle.std.specs.Prelude.{◌≡◌, ◌≤◌, length};
 ghost use Rattle.cbf_letters.specs.Octets.{GoodText};
-ghost use Rattle.cbf_text.specs.TextWindow.{Holds, content};
+ghost use Rattle.cbf_text.specs.TextWindow.{Holds, Refilled, fresh};
 
 use cbf_letters::octets;
 
-// What a window holds: the octets from next up to have are decoded and not used; behind them `left` octets are to
-// come, from at on in the text.
-#[derive(Clone, Copy)]
+// The octets from next up to have are decoded and not used; behind them `left` octets are to come, from at on in the
+// text.
+#[derive(Drop)]
 pub struct Window {
+    pub octets: [u8; 1536],
     pub at: usize,
     pub left: usize,
     pub next: usize,
     pub have: usize,
 }
 
-// Moves the octets from next up to have to the front.
-fn slide(window: &mut [u8], next: usize, have: usize)
-    requires { (next ≤ have) × (have ≤ length window.old) }
-    ensures { (take (have - next) window.new ≡ slice next have window.old)
-        × (length window.new ≡ length window.old) }
-{
-    let n = have - next;
-    let mut j: usize = 0;
-    while j < n {
-        window[j] = window[next + j];
-        j += 1;
-    }
-}
-
-// Fills the window from the text that ends at to: what is not used goes to the front, and octets come behind it.
-pub fn refill(file: &[u8], to: usize, w: Window, window: &mut [u8]) -> Window
-    requires { (to ≤ length file.now) × GoodText file.now w.at to × Holds file.now to window.old w }
-    ensures next_value { (result.next ≡ 0) × Holds file.now to window.new result
-        × (content file.now to window.new result ≡ content file.now to
-        window.old w) }
-    ensures fact { ((result.left ≡ 0) ⊎ (length window.new < result.have + 3)) × (w.at ≤ result.at)
-        × (length window.new ≡ length window.old) }
-{
-    let unused = w.have - w.next;
-    slide(window, w.next, w.have);
-    let d = octets::decode(file, w.at, to, window, unused);
-    let got = d.end - unused;
-    if w.left < got {
-        return Window {
-            at: d.at,
-            left: 0,
+impl Window {
+    // A window that has nothing yet of the size octets that the text has from at on.
+    pub fn new(at: usize, size: usize) -> Window
+        ensures { result ≡ fresh at size }
+    {
+        Window {
+            octets: [0; 1536],
+            at,
+            left: size,
             next: 0,
-            have: unused + w.left,
-        };
+            have: 0,
+        }
     }
-    Window {
-        at: d.at,
-        left: w.left - got,
-        next: 0,
-        have: d.end,
+
+    // Fills the window from the text that ends at to: what is not used goes to the front, and octets come behind it.
+    pub fn refill(&mut self, file: &[u8], to: usize)
+        requires { (to ≤ length file.now) × GoodText file.now self.old.at to × Holds file.now to self.old }
+        ensures { Refilled file.now to self.old self.new }
+    {
+        self.octets.copy_within(self.next..self.have, 0);
+        let unused = self.have - self.next;
+        let d = octets::decode(file, self.at, to, &mut self.octets, unused);
+        let got = (d.end - unused).min(self.left);
+        self.at = d.at;
+        self.left -= got;
+        self.next = 0;
+        self.have = unused + got;
     }
 }

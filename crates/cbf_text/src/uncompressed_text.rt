@@ -5,9 +5,7 @@ ghost use Rattle.cbf_pixels.specs.Uncompressed.{octets_per, unpack_uncompressed}
 ghost use Rattle.cbf_pixels.specs.PixelCalls.{pixels_of};
 ghost use Rattle.cbf_letters.specs.Octets.{GoodText, text_octets};
 
-use crate::text_window;
 use crate::text_window::Window;
-use cbf_letters::octets;
 use cbf_pixels::{Compression, ElementType};
 
 // Writes count uncompressed pixels from the text, whose octets are as many as the pixels take.
@@ -27,31 +25,21 @@ pub fn unpack_uncompressed(
         (take size (text_octets file.now from to))) ++ drop count out.old }
 {
     let width = cbf_pixels::octets_per(kind);
-    let mut window = [0u8; 1536];
-    let mut w = Window {
-        at: from,
-        left: size,
-        next: 0,
-        have: 0,
-    };
-    let mut k: usize = 0;
+    let mut w = Window::new(from, size);
+    let mut k = 0;
+    // no `for`: how far a turn goes is known when it is over
     while k < count {
-        let v = text_window::refill(file, to, w, &mut window);
-        let n = octets::least(count - k, v.have / width);
-        let used = n * width;
+        w.refill(file, to);
+        let n = (count - k).min(w.have / width);
+        w.next = n * width;
         cbf_unpack::unpack(
             Compression::Uncompressed,
             kind,
-            &window[..used],
+            &w.octets[..w.next],
             n,
             &mut out[k..],
-        );
-        w = Window {
-            at: v.at,
-            left: v.left,
-            next: used,
-            have: v.have,
-        };
+        )
+        .unwrap();
         k += n;
     }
 }

@@ -7,8 +7,9 @@ ghost use Rattle.cbf_pixels.specs.PixelCalls.{unpack_outcome, unpack_output};
 ghost use Rattle.cbf_pixels.specs.declared.Compression.TheVariants.{Uncompressed};
 ghost use Rattle.cbf_letters.specs.Octets.{GoodText, text_octets};
 
-use crate::{byte_offset_text, uncompressed_text};
-use cbf_answers::Answer;
+use crate::byte_offset_text::{Fill, Validate, pass};
+use crate::uncompressed_text;
+use cbf_answers::{Reason, Refusal};
 use cbf_pixels::{Compression, ElementType};
 
 // Unpacks count pixels from the text, which stands for size octets; as cbf_pixels::unpack does from octets. Octets
@@ -22,7 +23,7 @@ pub fn unpack(
     size: usize,
     count: usize,
     out: &mut [i64],
-) -> Answer
+) -> Result<usize, Refusal>
     requires { (from ≤ to) × (to ≤ length file.now) × GoodText file.now from to
         × (size ≤ length (text_octets file.now from to)) × (count ≤ pixel_limit) × (compression ≡ Uncompressed
         → size ≡ count * octets_per kind) }
@@ -34,20 +35,19 @@ pub fn unpack(
     match compression {
         Compression::Uncompressed => {
             if out.len() < count {
-                return cbf_answers::refused(15);
+                return Err(Reason::NoRoom.at(0));
             }
             uncompressed_text::unpack_uncompressed(kind, file, from, to, size, count, out);
-            Answer::Length(count)
         }
         Compression::ByteOffset => {
-            if !byte_offset_text::pass(kind, file, from, to, size, count, out, false) {
-                return cbf_answers::refused(13);
+            if !pass::<Validate>(kind, file, from, to, size, count, out) {
+                return Err(Reason::BadOctets.at(0));
             }
             if out.len() < count {
-                return cbf_answers::refused(15);
+                return Err(Reason::NoRoom.at(0));
             }
-            byte_offset_text::pass(kind, file, from, to, size, count, out, true);
-            Answer::Length(count)
+            pass::<Fill>(kind, file, from, to, size, count, out);
         }
     }
+    Ok(count)
 }

@@ -6,7 +6,7 @@ use mathlib.Core.Path.{◌≡◌, refl, sym, ap, ap₂, ◌∙◌, subst}
 use mathlib.Core.List.{List, [], ◌∷◌, ◌++◌, append_assoc, append-nil}
 use mathlib.Core.Bool.{Bool, true, false}
 use mathlib.Core.Logic.{◌⊎◌, inl, inr}
-use mathlib.Core.Option.{Option, none, some}
+use Rattle.std.specs.Prelude.{Option, None, Some}
 use lib.Dec.{lit<}
 use lib.ListN.{length, drop, set, length-append}
 use lib.Seq.{sets, sets-eq, length-sets}
@@ -31,12 +31,12 @@ use Rattle.cbf_octets.proofs.RestLaws.{rest-start}
 -- ---- lists of pixels, and what is left
 
 pub onto-onto : (xs ys : List ℤ) (o : Option (List ℤ)) → onto_pixels xs (onto_pixels ys o) ≡ onto_pixels (xs ++ ys) o
-onto-onto xs ys none = refl
-onto-onto xs ys (some ps) = ap some (sym (append_assoc xs ys ps))
+onto-onto xs ys None = refl
+onto-onto xs ys (Some ps) = ap Some (sym (append_assoc xs ys ps))
 
 pub onto-nil : (o : Option (List ℤ)) → o ≡ onto_pixels [] o
-onto-nil none = refl
-onto-nil (some ps) = refl
+onto-nil None = refl
+onto-nil (Some ps) = refl
 
 -- ---- the machine's integers
 
@@ -221,10 +221,9 @@ run-then m u b f h e r = (unpacks-then m (fillable u b) f h, omega (arith, fille
 -- what the second pass answers
 pub filled-part : {os : List ℕ} {ended : Bool} {z z' : ℤ} {i count n j k : ℕ} {out out' : List ℤ} (r : Part)
     → Filled os z i n z' j k out out' → n ≤ count → Stopped os ended count n j
-    → r.good ≡ true → r.count ≡ n → r.last.pixel ≡ z' → r.last.next ≡ j → FilledPart os ended z i count k out out' r
-filled-part {os} {ended} {z} {z'} {i} {count} {n} {j} {k} {out} {out'} r f h w g a b c =
+    → r.count ≡ n → r.last.pixel ≡ z' → r.last.next ≡ j → FilledPart os ended z i count k out out' r
+filled-part {os} {ended} {z} {z'} {i} {count} {n} {j} {k} {out} {out'} r f h w a b c =
     record {
-      good = g;
       few = omega arith;
       inside = omega (arith, f.inside);
       still = λ y. omega (arith, f.reach);
@@ -250,11 +249,11 @@ fillable-start t count os s =
     record { type = t; tail = []; last = λ _. refl; unpacks = sym (ap is_some (rest-start t os count)) ∙ s; before = lit< tt }
 
 -- what is left where no pixel is
-pub rest-empty : (t : ElementType) (os tail : List ℕ) (z : ℤ) (j : ℕ) → is_some (rest t os tail z j 0) ≡ true → rest t os tail z j 0 ≡ some []
+pub rest-empty : (t : ElementType) (os tail : List ℕ) (z : ℤ) (j : ℕ) → is_some (rest t os tail z j 0) ≡ true → rest t os tail z j 0 ≡ Some []
 unfolding rest unpack_from is_some
 rest-empty t os tail z j s = go (drop j os ++ tail) s
   where
-    go : (l : List ℕ) → is_some (unpack_from (least t) (greatest t) z 0 l) ≡ true → unpack_from (least t) (greatest t) z 0 l ≡ some []
+    go : (l : List ℕ) → is_some (unpack_from (least t) (greatest t) z 0 l) ≡ true → unpack_from (least t) (greatest t) z 0 l ≡ Some []
     go [] s = refl
     go (o ∷ l) s = never s
 
@@ -272,7 +271,7 @@ filled-end t {os} {count} {out} {out'} {r} s h f =
     let p : rest t os [] (pos 0) 0 count ≡ onto_pixels ps (rest t os [] z j 0) = f.leads t [] (λ _. refl) s₁
     ∙ ap (λ (x : ℕ). onto_pixels ps (rest t os [] z j x)) n in
     let s₂ = sym (some-onto ps (rest t os [] z j 0)) ∙ ap is_some (sym p) ∙ s₁ in
-    let q : unpack_byte_offset t count os ≡ some (ps ++ []) = a ∙ p ∙ ap (onto_pixels ps) (rest-empty t os [] z j s₂) in
+    let q : unpack_byte_offset t count os ≡ Some (ps ++ []) = a ∙ p ∙ ap (onto_pixels ps) (rest-empty t os [] z j s₂) in
     let e : 0 + length ps ≡ count = omega (arith, f.many) in
     f.wrote
     ∙ sets-eq ps out 0 (omega (arith, f.many))

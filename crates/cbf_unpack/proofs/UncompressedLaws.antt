@@ -6,7 +6,8 @@ use native.Mathlib.Numerals.{add-one}
 use mathlib.Core.Path.{◌≡◌, refl, sym, ap, ap₂, ◌∙◌}
 use mathlib.Core.List.{List, [], ◌∷◌, ◌++◌, append_assoc}
 use mathlib.Core.Bool.{Bool, true, false, cond}
-use mathlib.Core.Option.{Option, none, some, map}
+use Rattle.std.specs.Prelude.{Option, None, Some}
+use Rattle.std.specs.Prelude.{option_map}
 use lib.Dec.{leb}
 use lib.ListN.{length, take, drop, set, length-append, length-drop, take-append-drop}
 use lib.Seq.{length-take-le, take-append-le, drop-append-le, take_at, drop_at, drop-drop, set_split}
@@ -29,7 +30,7 @@ module _ (s : Bool) (k : ℕ) where
   unfoldable pub pixel_after : ℕ → List ℕ → ℤ
   pixel_after n os = pixel_of s k (number (take k (drop (k * n) os)))
 
-  pub read_all : (n : ℕ) (os : List ℕ) → length os ≡ k * n → read_pixels s k n os ≡ some (pixels_in n os)
+  pub read_all : (n : ℕ) (os : List ℕ) → length os ≡ k * n → read_pixels s k n os ≡ Some (pixels_in n os)
   unfolding read_pixels pixels_in
   read_all zero [] e = refl
   read_all zero (o ∷ os) e = let y : ⊥ = omega arith in absurd y
@@ -44,9 +45,9 @@ module _ (s : Bool) (k : ℕ) where
       (λ e. ne (omega (arith, length-drop k os))))
     where
       go : (b : Bool) → leb k (length os) ≡ b → (o : Option (List ℤ)) → (k ≤ length os → is_some o ≡ false)
-          → is_some (cond b (map (λ (ps : List ℤ). pixel_of s k (number (take k os)) ∷ ps) o) none) ≡ false
-      go true h none ih = refl
-      go true h (some ps) ih = ih (leb-true k (length os) h)
+          → is_some (cond b (option_map (λ (ps : List ℤ). pixel_of s k (number (take k os)) ∷ ps) o) None) ≡ false
+      go true h None ih = refl
+      go true h (Some ps) ih = ih (leb-true k (length os) h)
       go false h o ih = refl
 
   pixels-add : (n m : ℕ) (os : List ℕ) → pixels_in (n + m) os ≡ pixels_in n os ++ pixels_in m (drop (k * n) os)

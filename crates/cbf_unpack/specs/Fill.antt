@@ -40,7 +40,6 @@ pub record Fillable (os : List ℕ) (ended : Bool) (z : ℤ) (i count : ℕ) : T
 
 -- the second pass over them wrote pixels to out from k on, giving out'
 pub record FilledPart (os : List ℕ) (ended : Bool) (z : ℤ) (i count k : ℕ) (out out' : List ℤ) (r : Part) : Type 0 where
-  pub good : r.good ≡ true
   pub few : r.count ≤ count
   pub inside : r.last.next ≤ length os
   pub still : r.count ≡ 0 → r.last.next ≤ i

@@ -5,7 +5,7 @@ ghost use Rattle.cbf_pixels.specs.PixelCalls.{is_some, pixels_of};
 ghost use Rattle.cbf_octets.specs.Plain.{Plain};
 ghost use Rattle.cbf_unpack.specs.Fill.{Unpacks, Filled, Fillable, FilledPart};
 
-use cbf_octets::{Last, Part, difference, octets, plain};
+use cbf_octets::{Last, Part, difference, plain};
 use cbf_pixels::ElementType;
 
 // 32 pixels of plain octets, from the octet i on, written from k on.
@@ -15,11 +15,9 @@ fn fill_block(octets: &[u8], i: usize, pixel: i64, out: &mut [i64], k: usize) ->
     ensures { Filled octets.now pixel i 32 result (i + 32) k out.old out.new }
 {
     let mut z = pixel;
-    let mut j: usize = 0;
-    while j < 32 {
-        z = z + difference::extended(octets::wide(octets[i + j]), 128);
+    for j in 0..32 {
+        z += difference::extended(u64::from(octets[i + j]), 128);
         out[k + j] = z;
-        j += 1;
     }
     z
 }
@@ -31,10 +29,8 @@ fn fill_run(octets: &[u8], i: usize, n: usize, pixel: i64, out: &mut [i64], k: u
     ensures { Filled octets.now pixel i n result (i + n) k out.old out.new }
 {
     let mut z = pixel;
-    let mut j: usize = 0;
-    while j < n {
+    for j in (0..n).step_by(32) {
         z = fill_block(octets, i + j, z, out, k + j);
-        j += 32;
     }
     z
 }
@@ -45,43 +41,16 @@ fn fill_one(octets: &[u8], s: Last, out: &mut [i64], k: usize) -> Last
     ensures { Filled octets.now s.pixel s.next 1 result.pixel result.next k out.old
         out.new }
 {
-    let i = s.next;
-    let d = difference::read_difference(octets, i);
-    let z = s.pixel + d.value;
-    out[k] = z;
+    let d = difference::read_difference(octets, s.next);
+    let pixel = s.pixel + d.value;
+    out[k] = pixel;
     Last {
-        pixel: z,
+        pixel,
         next: d.next,
     }
 }
 
-fn fill_four(octets: &[u8], s: Last, out: &mut [i64], k: usize) -> Last
-    requires { Unpacks octets.now s.pixel s.next 4 60 × (s.next ≤ length octets.now)
-        × (k + 4 ≤ length out.old) }
-    ensures { Filled octets.now s.pixel s.next 4 result.pixel result.next k out.old
-        out.new }
-{
-    let a = fill_one(octets, s, out, k);
-    let b = fill_one(octets, a, out, k + 1);
-    let c = fill_one(octets, b, out, k + 2);
-    fill_one(octets, c, out, k + 3)
-}
-
-fn fill_32(octets: &[u8], s: Last, out: &mut [i64], k: usize) -> Last
-    requires { Unpacks octets.now s.pixel s.next 32 480 × (s.next ≤ length octets.now)
-        × (k + 32 ≤ length out.old) }
-    ensures { Filled octets.now s.pixel s.next 32 result.pixel result.next k out.old
-        out.new }
-{
-    let mut last = s;
-    let mut j: usize = 0;
-    while j < 32 {
-        last = fill_four(octets, last, out, k + j);
-        j += 4;
-    }
-    last
-}
-
+// n pixels, one after another.
 fn fill_each(octets: &[u8], s: Last, out: &mut [i64], k: usize, n: usize) -> Last
     requires { Unpacks octets.now s.pixel s.next n (15 * n) × (s.next ≤ length octets.now)
         × (k + n ≤ length out.old) }
@@ -89,10 +58,23 @@ fn fill_each(octets: &[u8], s: Last, out: &mut [i64], k: usize, n: usize) -> Las
         out.new }
 {
     let mut last = s;
-    let mut j: usize = 0;
-    while j < n {
+    for j in 0..n {
         last = fill_one(octets, last, out, k + j);
-        j += 1;
+    }
+    last
+}
+
+// The compiler writes four pixels out, so that the loop is tested less often: with octets that have escapes, one test a
+// pixel costs a seventh more.
+fn fill_32(octets: &[u8], s: Last, out: &mut [i64], k: usize) -> Last
+    requires { Unpacks octets.now s.pixel s.next 32 480 × (s.next ≤ length octets.now)
+        × (k + 32 ≤ length out.old) }
+    ensures { Filled octets.now s.pixel s.next 32 result.pixel result.next k out.old
+        out.new }
+{
+    let mut last = s;
+    for j in (0..32).step_by(4) {
+        last = fill_each(octets, last, out, k + j, 4);
     }
     last
 }
@@ -126,34 +108,23 @@ pub fn fill_part(
         out.new result }
 {
     let mut last = s;
-    let mut j: usize = 0;
-    while j < count {
-        let i = last.next;
-        if plain::waits(ended, octets.len() - i) {
-            return Part {
-                good: true,
-                count: j,
-                last: last,
-            };
-        }
-        let mut n = plain::plain_run(octets, i, count - j);
+    let mut j = 0;
+    // no `for`: how far a turn goes is known when it is over
+    while j < count && !plain::waits(ended, octets.len() - last.next) {
+        let mut n = plain::plain_run(octets, last.next, count - j);
         if n == 0 {
             n = plain::part(count - j);
             last = fill_few(octets, last, out, k + j, n);
         } else {
-            let z = fill_run(octets, i, n, last.pixel, out, k + j);
+            let pixel = fill_run(octets, last.next, n, last.pixel, out, k + j);
             last = Last {
-                pixel: z,
-                next: i + n,
+                pixel,
+                next: last.next + n,
             };
         }
         j += n;
     }
-    Part {
-        good: true,
-        count: j,
-        last: last,
-    }
+    Part { count: j, last }
 }
 
 // The pixels, written to the front of out.
@@ -162,6 +133,5 @@ pub fn fill(kind: ElementType, octets: &[u8], count: usize, out: &mut [i64])
     ensures { out.new ≡ pixels_of (unpack_byte_offset kind count octets.now)
         ++ drop count out.old }
 {
-    let start = Last { pixel: 0, next: 0 };
-    let all = fill_part(octets, true, start, count, out, 0);
+    fill_part(octets, true, Last { pixel: 0, next: 0 }, count, out, 0);
 }

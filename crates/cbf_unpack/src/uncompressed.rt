@@ -12,14 +12,7 @@ use cbf_pixels::ElementType;
 fn is_signed(kind: ElementType) -> bool
     ensures { result ≡ is_signed kind }
 {
-    match kind {
-        ElementType::U8 => false,
-        ElementType::S8 => true,
-        ElementType::U16 => false,
-        ElementType::S16 => true,
-        ElementType::U32 => false,
-        ElementType::S32 => true,
-    }
+    matches!(kind, ElementType::S8 | ElementType::S16 | ElementType::S32)
 }
 
 // The pixel with the number n, in a signed type or not. half is half of the width's numbers.
@@ -28,9 +21,10 @@ fn pixel(n: u64, half: u64, signed: bool) -> i64
     ensures { (k : ℕ) → half ≡ half_of k → result ≡ pixel_of signed k n }
 {
     if signed {
-        return difference::extended(n, half);
+        difference::extended(n, half)
+    } else {
+        n as i64
     }
-    n as i64
 }
 
 // The pixel whose octets start at i. width and signed do not change in a loop over pixels, so that the compiler makes
@@ -39,13 +33,11 @@ fn pixel_at(octets: &[u8], i: usize, width: usize, signed: bool) -> i64
     requires { Width width × (i + width ≤ length octets.now) }
     ensures { result ≡ pixel_of signed width (number (take width (drop i octets.now))) }
 {
-    if width == 1 {
-        return pixel(octets::wide(octets[i]), 128, signed);
+    match width {
+        1 => pixel(u64::from(octets[i]), 128, signed),
+        2 => pixel(octets::le2(octets, i), 32768, signed),
+        _ => pixel(octets::le4(octets, i), 2147483648, signed),
     }
-    if width == 2 {
-        return pixel(octets::le2(octets, i), 32768, signed);
-    }
-    pixel(octets::le4(octets, i), 2147483648, signed)
 }
 
 // The pixels, written to the front of out.
@@ -56,10 +48,7 @@ pub fn fill(kind: ElementType, octets: &[u8], count: usize, out: &mut [i64])
 {
     let width = cbf_pixels::octets_per(kind);
     let signed = is_signed(kind);
-    let mut k: usize = 0;
-    while k < count {
-        let z = pixel_at(octets, width * k, width, signed);
-        out[k] = z;
-        k += 1;
+    for k in 0..count {
+        out[k] = pixel_at(octets, width * k, width, signed);
     }
 }

@@ -1,19 +1,9 @@
 -- The first pass of unpacking, step by step. Assumes nothing.
-use Prim.Native.Nat.{ℕ, suc, ◌+◌, ◌*◌, ◌-◌, ◌/◌, ◌^◌, ◌<◌, ◌≤◌}
-use native.Mathlib.Omega.{arith}
-use mathlib.Core.Path.{◌≡◌, refl, sym, ap, ap₂, ◌∙◌, subst}
-use mathlib.Core.List.{List, []}
-use mathlib.Core.Bool.{Bool, true, false}
-use mathlib.Core.Logic.{inl, inr}
-use lib.Dec.{ltb, leb, eqb}
+use Rattle.std.proofs.Common.{◌≡◌, ℕ, ◌+◌, ◌*◌, ◌-◌, ◌/◌, ◌^◌, ◌<◌, ◌≤◌, Bool, true, false, ltb, leb, eqb, List, [], length, get_or, ℤ, pos, nat_abs, ◌+ℤ◌, ◌-ℤ◌, w64, to_z, of_z, refl, sym, ap, ap₂, ◌∙◌, subst, inl, inr, arith, ltb-true, ltb-false, leb-true, leb-false}
 use lib.Bits.{bit_or, or_shr, or_block, or_self, or_lt, or_shifted}
-use lib.ListN.{length, get_or}
-use lib.IntN.{ℤ, pos, negsuc, sub_ℕ, nat_abs, ◌+ℤ◌, ◌-ℤ◌, +ℤ_idl, +ℤ_comm}
+use lib.IntN.{sub_ℕ, +ℤ_idl, +ℤ_comm}
 use lib.Signed.{mag}
-use mir.Syntax.{w64}
-use mir.Val.{to_z, of_z}
 use mir.Facts.{to_z_pos}
-use borrow.Author.Tests.{ltb-true, ltb-false, leb-true, leb-false}
 use Rattle.cbf_pixels.specs.declared.ElementType.{ElementType}
 use Rattle.cbf_octets.specs.declared.Part.{Part}
 use Rattle.cbf_pixels.specs.Octets.{signed}
@@ -22,8 +12,8 @@ use Rattle.cbf_pixels.specs.PixelCalls.{is_some}
 use Rattle.cbf_octets.specs.Rest.{rest, Behind, Stopped}
 use Rattle.cbf_octets.specs.Difference.{Took}
 use Rattle.cbf_sums.specs.Passes.{biased_least, biased_zero, biased_greatest, pixel_at, Top, Between, Passes, Fails}
-use Rattle.cbf_sums.specs.Passes.{Passed}
-use Rattle.cbf_validate.specs.Validate.{Glides, Summed, Adds, Summable, ValidPart}
+use Rattle.cbf_sums.specs.Passes.{Failed, Passed}
+use Rattle.cbf_validate.specs.Validate.{Glides, Summed, Adds, Summable, Invalid, Valid}
 use Rattle.cbf_pixels.proofs.Bitwise.{or_left, or_right}
 use Rattle.cbf_pixels.proofs.Integers.{never, within-small, subℕ-pos, held}
 use Rattle.cbf_pixels.proofs.Numbers.{mag-le}
@@ -32,29 +22,13 @@ use Rattle.cbf_octets.proofs.PlainLaws.{plain-took}
 use Rattle.cbf_octets.proofs.RestLaws.{rest-start, rest_end_lem}
 use Rattle.cbf_sums.proofs.PassesLaws.{sub-sum, zero-between, top-is, top_small, clamped-reach, within-between}
 use Rattle.cbf_sums.proofs.PassesLaws.{within-beyond, counts, step_in, step-out, passes_none, passes-passes}
-use Rattle.cbf_sums.proofs.PassesLaws.{passes-fails, fails_more, passed-not, passed_to}
-
--- the sum as the machine computes it
-pub record Sum (a : ℕ) (d : ℤ) : Type 0 where
-  pub total : ℕ
-  pub exact : pos total ≡ pos a +ℤ d
-  pub small : total < 2 ^ 63
-
-pub sum_of : (a : ℕ) (d : ℤ) → 2 ^ 39 ≤ a → a ≤ 2 ^ 42 → nat_abs d ≤ 2 ^ 36 → Sum a d
-sum_of a (pos n) l h k = record { total = a + n; exact = refl; small = omega arith }
-sum_of a (negsuc n) l h k =
-    record { total = a - suc n; exact = sym (subℕ-pos a (suc n) (omega arith)); small = omega arith }
+use Rattle.cbf_sums.proofs.PassesLaws.{passes-fails, fails_more}
 
 pub held-is : (d : ℤ) → nat_abs d ≤ 2 ^ 36 → to_z w64 (of_z w64 d) ≡ d
 held-is d h = held d (omega (arith, mag-le d))
 
 pub held_small : (d : ℤ) → nat_abs d ≤ 2 ^ 36 → nat_abs (to_z w64 (of_z w64 d)) ≤ 2 ^ 36
 held_small d h = subst (λ (z : ℤ). nat_abs z ≤ 2 ^ 36) (sym (held-is d h)) h
-
-pub computed-is : (a : ℕ) (d : ℤ) → a ≤ 2 ^ 42 → nat_abs d ≤ 2 ^ 36 → (s : Sum a d) → to_z w64 a +ℤ to_z w64 (of_z w64 d) ≡ pos s.total
-computed-is a d h k s =
-    let l : a < 2 ^ 63 = omega arith in
-    ap (λ (z : ℤ). z +ℤ to_z w64 (of_z w64 d)) (to_z_pos w64 l) ∙ ap (λ (z : ℤ). pos a +ℤ z) (held-is d k) ∙ sym s.exact
 
 -- a difference that was read, as it is held
 pub took-small : {os : List ℕ} {i j : ℕ} {value : ℤ} → Took os i value j → nat_abs value ≤ 2 ^ 36
@@ -173,10 +147,10 @@ module _ (top : ℕ) (os : List ℕ) (biased i n biased' all j : ℕ) where
 
   -- what a step answers after a sum
   pub summed-to : Summed top os biased i n biased' all j → all ≤ top → j ≤ length os → Passed top os biased i n biased' j
-  summed-to X a h = let G = X.good a in passed_to top os biased i n biased' j G.0 G.1 h
+  summed-to X a h = let G = X.good a in record { between = G.0; passes = G.1; inside = h }
 
-  pub summed-not : (m k : ℕ) → Summed top os biased i n biased' all j → top < all → n ≤ m → k ≤ length os → Passed top os biased i m 0 k
-  summed-not m k X a l h = passed-not top os biased i m k (λ tail _. fails_more top os biased i n m tail l (X.bad a tail)) h
+  pub summed-not : (m : ℕ) → Summed top os biased i n biased' all j → top < all → n ≤ m → Failed top os biased i m
+  summed-not m X a l tail _ = fails_more top os biased i n m tail l (X.bad a tail)
 
 -- ---- a plain octet
 
@@ -271,37 +245,24 @@ module _ (t : ElementType) (os : List ℕ) (ended : Bool) (z : ℤ) (i count top
   starts : (tail : List ℕ) (n : ℕ) → n ≡ count → is_some (rest t os tail z i count) ≡ is_some (rest t os tail (pixel_at t start) i n)
   starts tail n e = ap (λ (x : ℤ). is_some (rest t os tail x i count)) (sym z-is) ∙ counts t os tail (pixel_at t start) i count n (sym e)
 
-  module _ (r : Part) where
-    pub valid-not : (n : ℕ) → ((tail : List ℕ) → Behind ended tail → Fails top os tail start i n) → n ≤ count
-        → r.good ≡ false → r.count ≤ count → r.last.next ≤ length os → r.last.next ≤ i
-        → ValidPart t os ended z i count r
-    unfolding Fails
-    valid-not n f h b few inside still =
-        record {
-          few = few;
-          inside = inside;
-          still = λ _. still;
-          failed = λ _ tail w. starts tail (n + (count - n)) (omega arith) ∙ f tail w t (sym g) (count - n);
-          passed = λ y. never (sym b ∙ y);
-          typed = λ y. never (sym b ∙ y);
-          stopped = λ y. never (sym b ∙ y);
-        }
+  pub invalid : (n : ℕ) → ((tail : List ℕ) → Behind ended tail → Fails top os tail start i n) → n ≤ count → Invalid t os ended z i count
+  unfolding Fails
+  invalid n f h tail w = starts tail (n + (count - n)) (omega arith) ∙ f tail w t (sym g) (count - n)
 
-    pub valid_to : (k biased j : ℕ) → Passes top os start i k biased j → Between top biased → k ≤ count
-        → j ≤ length os → (k ≡ 0 → j ≡ i) → Stopped os ended count k j
-        → (r.good ≡ true) × (r.count ≡ k) × (r.last.pixel ≡ pixel_at t biased) × (r.last.next ≡ j) → ValidPart t os ended z i count r
-    unfolding Passes
-    valid_to k biased j p b h inside still w e =
-        record {
-          few = omega (arith, e.1);
-          inside = omega (arith, e.3);
-          still = λ y. omega (arith, e.3, still (sym e.1 ∙ y));
-          failed = λ y. never (sym y ∙ e.0);
-          passed = λ _ tail _. starts tail (k + (count - k)) (omega arith) ∙ p t (sym g) tail (count - k) ∙ sym (rw (e.1, e.2, e.3));
-          typed = λ _. ap (within (least t) (greatest t)) e.2 ∙ within-between t (biased_zero t) biased
-              (zero-between t) (subst (λ (n : ℕ). Between n biased) g b);
-          stopped = λ _. rw (e.1, e.3) w;
-        }
+  pub valid : (k biased j : ℕ) → Passes top os start i k biased j → Between top biased → k ≤ count → j ≤ length os → (k ≡ 0 → j ≡ i)
+      → Stopped os ended count k j → (r : Part) → r.count ≡ k → r.last.pixel ≡ pixel_at t biased → r.last.next ≡ j
+      → Valid t os ended z i count r
+  unfolding Passes
+  valid k biased j p b h inside still w r c e n =
+      record {
+        few = omega arith;
+        inside = omega arith;
+        still = λ y. omega (arith, still (sym c ∙ y));
+        passed = λ tail _. starts tail (k + (count - k)) (omega arith) ∙ p t (sym g) tail (count - k) ∙ sym (rw (c, e, n));
+        typed = ap (within (least t) (greatest t)) e ∙ within-between t (biased_zero t) biased
+            (zero-between t) (subst (λ (m : ℕ). Between m biased) g b);
+        stopped = rw (c, n) w;
+      }
 
 -- all octets as one part
 pub zero-within : (t : ElementType) → within (least t) (greatest t) (pos 0) ≡ true
@@ -310,14 +271,14 @@ zero-within t =
     ap (within (least t) (greatest t)) (sym (pixel-at t (pos 0) (biased_zero t) e)) ∙ within-between t (biased_zero t)
     (biased_zero t) (zero-between t) (zero-between t)
 
-module _ (t : ElementType) (os : List ℕ) (count : ℕ) (r : Part) (v : ValidPart t os true (pos 0) 0 count r) where
-  pub unpacks-not : r.good ≡ false → false ≡ is_some (unpack_byte_offset t count os)
-  unpacks-not b = sym (ap is_some (rest-start t os count) ∙ v.failed b [] (λ _. refl))
+module _ (t : ElementType) (os : List ℕ) (count : ℕ) where
+  pub unpacks-not : Invalid t os true (pos 0) 0 count → false ≡ is_some (unpack_byte_offset t count os)
+  unpacks-not v = sym (ap is_some (rest-start t os count) ∙ v [] (λ _. refl))
 
-  pub unpacks-to : r.good ≡ true → eqb r.last.next (length os) ≡ is_some (unpack_byte_offset t count os)
-  unpacks-to b =
-      sym (ap is_some (rest-start t os count) ∙ v.passed b [] (λ _. refl) ∙ counts t os [] r.last.pixel
-      r.last.next (count - r.count) 0 (done (v.stopped b))
+  pub unpacks-to : (r : Part) → Valid t os true (pos 0) 0 count r → eqb r.last.next (length os) ≡ is_some (unpack_byte_offset t count os)
+  unpacks-to r v =
+      sym (ap is_some (rest-start t os count) ∙ v.passed [] (λ _. refl) ∙ counts t os [] r.last.pixel
+      r.last.next (count - r.count) 0 (done v.stopped)
       ∙ rest_end_lem t os r.last.pixel r.last.next v.inside)
     where
       done : Stopped os true count r.count r.last.next → count - r.count ≡ 0

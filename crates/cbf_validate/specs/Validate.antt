@@ -1,5 +1,5 @@
 -- What the first pass of unpacking finds. Nothing here is part of what the public calls promise.
-use Rattle.std.specs.Prelude.{ℕ, ◌+◌, ◌*◌, ◌-◌, ◌^◌, ◌<◌, ◌≤◌, ◌≡◌, List, Bool, true, false, length, ℤ}
+use Rattle.std.specs.Prelude.{ℕ, ◌+◌, ◌*◌, ◌-◌, ◌^◌, ◌<◌, ◌≤◌, ◌≡◌, List, Bool, true, false, length, ℤ, Option, MatchOption}
 use Rattle.cbf_pixels.specs.Pixels.{within, least, greatest}
 use Rattle.cbf_pixels.specs.PixelCalls.{is_some}
 use Rattle.cbf_pixels.specs.declared.ElementType.{ElementType}
@@ -32,13 +32,20 @@ pub record Adds (os : List ℕ) (n biased all i biased' all' j : ℕ) : Type 0 w
 abbrev pub Summable : ℕ → ℕ → Type 0
 Summable n biased = (2 ^ 39 + n * 2 ^ 33 ≤ biased) × (biased + n * 2 ^ 36 ≤ 2 ^ 42)
 
--- the first pass over count pixels after z, from the octet i on
-pub record ValidPart (t : ElementType) (os : List ℕ) (ended : Bool) (z : ℤ) (i count : ℕ) (r : Part) : Type 0 where
+-- the count pixels after z, from the octet i on, do not unpack
+abbrev pub Invalid : ElementType → List ℕ → Bool → ℤ → ℕ → ℕ → Type 0
+Invalid t os ended z i count = (tail : List ℕ) → Behind ended tail → is_some (rest t os tail z i count) ≡ false
+
+-- a part of the count pixels after z, from the octet i on: they unpack exactly when what is left after it does
+pub record Valid (t : ElementType) (os : List ℕ) (ended : Bool) (z : ℤ) (i count : ℕ) (r : Part) : Type 0 where
   pub few : r.count ≤ count
   pub inside : r.last.next ≤ length os
   pub still : r.count ≡ 0 → r.last.next ≤ i
-  pub failed : r.good ≡ false → (tail : List ℕ) → Behind ended tail → is_some (rest t os tail z i count) ≡ false
-  pub passed : r.good ≡ true → (tail : List ℕ) → Behind ended tail
+  pub passed : (tail : List ℕ) → Behind ended tail
       → is_some (rest t os tail z i count) ≡ is_some (rest t os tail r.last.pixel r.last.next (count - r.count))
-  pub typed : r.good ≡ true → within (least t) (greatest t) r.last.pixel ≡ true
-  pub stopped : r.good ≡ true → Stopped os ended count r.count r.last.next
+  pub typed : within (least t) (greatest t) r.last.pixel ≡ true
+  pub stopped : Stopped os ended count r.count r.last.next
+
+-- the first pass over count pixels after z, from the octet i on
+abbrev pub ValidPart : ElementType → List ℕ → Bool → ℤ → ℕ → ℕ → Option Part → Type 0
+ValidPart t os ended z i count r = MatchOption r (Invalid t os ended z i count) (Valid t os ended z i count)

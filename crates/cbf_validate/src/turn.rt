@@ -1,149 +1,118 @@
 // One turn of the first pass of unpacking: a run of plain octets, octets with some escapes among them, or singles.
-ghost use Rattle.std.specs.Prelude.{◌≡◌, true, ◌+◌, ◌<◌, ◌≤◌, length};
-ghost use Rattle.cbf_sums.specs.Passes.{biased_least, Top, Between};
+ghost use Rattle.std.specs.Prelude.{◌≡◌, true, ◌+◌, ◌<◌, ◌≤◌, length, MatchOption};
+ghost use Rattle.cbf_sums.specs.Passes.{biased_least, Top, Between, Failed};
 ghost use Rattle.cbf_validate.specs.Turn.{Turned};
 
 use crate::validate;
-use crate::validate::State;
 use cbf_octets::plain;
-use cbf_sums::mixed;
+use cbf_sums::far::BIASED_LEAST;
+use cbf_sums::{State, mixed};
 
-// Where a turn leads: the last biased pixel, 0 where pixels do not unpack, where the next difference starts, and how
-// many pixels it passed. The way of the next turn is a guess from what was met: 0, mixed octets are tried before a
-// run; 1, after it; more, a run and else singles, until so many turns less one are over.
+// What the next turn tries: a guess from what was met.
+#[derive(Clone, Copy)]
+pub enum Way {
+    // Mixed octets, and else singles.
+    Mixed,
+    // A run, else mixed octets, and else singles.
+    Run,
+    // A run, and else singles, until singles were passed in this turn and in so many more.
+    Singles(u64),
+}
+
+// Where a turn leads, how many pixels it passed, and the way of the next one.
 #[derive(Clone, Copy)]
 pub struct Turn {
-    pub biased: u64,
-    pub next: usize,
+    pub to: State,
     pub count: usize,
-    pub way: u64,
+    pub way: Way,
 }
 
-// The way after mixed octets: 0 where there were four escapes and more.
-fn after_mixed(count: usize) -> u64 {
-    if count < 184 { 0 } else { 1 }
+// The way after mixed octets: mixed ones again where there were four escapes and more.
+fn after_mixed(count: usize) -> Way {
+    if count < 184 { Way::Mixed } else { Way::Run }
 }
 
-// The way after singles: mixed octets are tried again after this turn where they were met before it, else after eight.
-fn later(way: u64) -> u64 {
-    if way < 1 {
-        return 2;
+// The way after singles: mixed octets are tried again after the next turn where they were met before, else after eight.
+fn later(way: Way) -> Way {
+    match way {
+        Way::Mixed => Way::Singles(0),
+        Way::Run => Way::Singles(7),
+        Way::Singles(0) => Way::Run,
+        Way::Singles(more) => Way::Singles(more - 1),
     }
-    if way < 2 { 9 } else { way - 1 }
 }
 
 // Whether a run of plain octets may start at i. Where it does not, the call that looks for it is spared.
-fn may_run(octets: &[u8], i: usize, way: u64) -> bool
+fn may_run(octets: &[u8], i: usize, way: Way) -> bool
     requires { i ≤ length octets.now }
 {
-    if way < 1 {
-        return false;
-    }
-    if octets.len() - i < 32 {
-        return false;
-    }
-    octets[i] != 128
+    !matches!(way, Way::Mixed) && 32 <= octets.len() - i && octets[i] != 128
 }
 
 // Whether mixed octets are tried: there are octets and pixels enough, and the type is wide enough.
-fn may_mix(len: usize, i: usize, top: u64, left: usize, way: u64) -> bool
+fn may_mix(len: usize, i: usize, top: u64, left: usize, way: Way) -> bool
     requires { i ≤ len }
     ensures { result ≡ true → (biased_least + 65535 ≤ top) × (1 ≤ i) × (i + 192 ≤ len) × (192 ≤ left) }
 {
-    if 1 < way {
-        return false;
-    }
-    if i < 1 {
-        return false;
-    }
-    if top < 1099511627776 + 65535 {
-        return false;
-    }
-    if left < 192 {
-        return false;
-    }
-    192 <= len - i
+    !matches!(way, Way::Singles(_))
+        && 1 <= i
+        && BIASED_LEAST + 65535 <= top
+        && 192 <= left
+        && 192 <= len - i
 }
 
-// Whether singles go on after k of them from the octet i on: they took more than two octets each, and octets for a
-// part of them are left.
-fn go_on(s: State, i: usize, k: usize, left: usize, len: usize) -> bool
-    requires { (i ≤ len) × (s.next ≤ len) }
-    ensures { result ≡ true → (s.biased ≡ 0 → ⊥) × (k < left) × (s.next + 480 ≤ len) }
+// Whether singles go on after k of them from the octet i on, at next: they took more than two octets each, and octets
+// for a part of them are left.
+fn go_on(next: usize, i: usize, k: usize, left: usize, len: usize) -> bool
+    requires { (i ≤ len) × (next ≤ len) }
+    ensures { result ≡ true → (k < left) × (next + 480 ≤ len) }
 {
-    if s.biased == 0 {
-        return false;
-    }
-    if 128 <= k {
-        return false;
-    }
-    if left <= k {
-        return false;
-    }
-    let before = len - i;
-    let behind = len - s.next;
-    if before < behind {
-        return false;
-    }
-    if before - behind <= 2 * k {
-        return false;
-    }
-    480 <= behind
+    k < 128 && k < left && i <= next && 2 * k < next - i && 480 <= len - next
 }
 
 // One part of singles, or up to four where escapes are many.
-fn pass_singles(octets: &[u8], i: usize, biased: u64, top: u64, left: usize, way: u64) -> Turn
-    requires { Top top × Between top biased × (i ≤ length octets.now) × (0 < left) }
-    ensures { Turned top octets.now biased i left result.count result.biased result.next }
+fn pass_singles(octets: &[u8], at: State, top: u64, left: usize, way: Way) -> Option<Turn>
+    requires { Top top × Between top at.biased × (at.next ≤ length octets.now) × (0 < left) }
+    ensures { MatchOption result (Failed top octets.now at.biased at.next left)
+        (λ t. Turned top octets.now at.biased at.next left t.count t.to.biased t.to.next) }
 {
-    let mut s = State {
-        biased: biased,
-        next: i,
-    };
+    let mut to = at;
     let mut k: usize = 0;
-    let mut again = true;
-    while again {
-        let at = s.next;
+    loop {
         let n = plain::part(left - k);
-        s = validate::pass_few(octets, at, s.biased, top, n);
+        to = validate::pass_few(octets, to, n, top)?;
         k += n;
-        again = go_on(s, i, k, left, octets.len());
-    }
-    Turn {
-        biased: s.biased,
-        next: s.next,
-        count: k,
-        way: later(way),
+        if !go_on(to.next, at.next, k, left, octets.len()) {
+            return Some(Turn {
+                to,
+                count: k,
+                way: later(way),
+            });
+        }
     }
 }
 
-// Some of the pixels that are left, from the octet i on.
-pub fn pass_turn(octets: &[u8], i: usize, biased: u64, top: u64, left: usize, way: u64) -> Turn
-    requires { Top top × Between top biased × (i ≤ length octets.now) × (0 < left) }
-    ensures { Turned top octets.now biased i left result.count result.biased result.next }
+// Some of the pixels that are left, after at.
+pub fn pass_turn(octets: &[u8], at: State, top: u64, left: usize, way: Way) -> Option<Turn>
+    requires { Top top × Between top at.biased × (at.next ≤ length octets.now) × (0 < left) }
+    ensures { MatchOption result (Failed top octets.now at.biased at.next left)
+        (λ t. Turned top octets.now at.biased at.next left t.count t.to.biased t.to.next) }
 {
-    if may_run(octets, i, way) {
-        let n = plain::plain_run(octets, i, left);
+    if may_run(octets, at.next, way) {
+        let n = plain::plain_run(octets, at.next, left);
         if 0 < n {
-            let last = validate::pass_plain(octets, i, n, biased, top);
-            return Turn {
-                biased: last,
-                next: i + n,
-                count: n,
-                way: way,
-            };
+            let to = validate::pass_plain(octets, at, n, top)?;
+            return Some(Turn { to, count: n, way });
         }
     }
-    if may_mix(octets.len(), i, top, left, way) {
-        let m = mixed::pass_mixed(octets, i, biased, top);
-        if 0 < m.count {
-            return Turn {
-                biased: m.biased,
-                next: m.next,
-                count: m.count,
-                way: after_mixed(m.count),
-            };
-        }
+    if may_mix(octets.len(), at.next, top, left, way)
+        && let Some(m) = mixed::pass_mixed(octets, at, top)
+    {
+        return Some(Turn {
+            to: m.to,
+            count: m.count,
+            way: after_mixed(m.count),
+        });
     }
-    pass_singles(octets, i, biased, top, left, way)
+    pass_singles(octets, at, top, left, way)
 }

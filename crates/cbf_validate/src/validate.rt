@@ -1,29 +1,28 @@
 // The first pass of unpacking: whether octets unpack. It writes nothing.
-ghost use Rattle.std.specs.Prelude.{◌≡◌, true, ◌+◌, ◌*◌, ◌%◌, ◌<◌, ◌≤◌, ◌^◌, length, pos, nat_abs, ◌+ℤ◌};
+ghost use Rattle.std.specs.Prelude.{◌≡◌, true, ◌+◌, ◌*◌, ◌%◌, ◌<◌, ◌≤◌, ◌^◌, length, pos, nat_abs, ◌+ℤ◌, IfSome};
 ghost use Rattle.std.proofs.Math.IntN.{sub_ℕ};
 ghost use Rattle.cbf_pixels.specs.Octets.{signed};
 ghost use Rattle.cbf_pixels.specs.Pixels.{within, least, greatest, unpack_byte_offset};
 ghost use Rattle.cbf_pixels.specs.PixelCalls.{is_some};
 ghost use Rattle.cbf_octets.specs.Plain.{Plain};
 ghost use Rattle.cbf_validate.specs.Validate.{Glides, Adds, Summable, ValidPart};
-ghost use Rattle.cbf_sums.specs.Passes.{biased_zero, biased_greatest, pixel_at, Top, Between, Passes, Passed};
+ghost use Rattle.cbf_sums.specs.Passes.{biased_zero, biased_greatest, pixel_at, Top, Between, Passed, Stepped};
 
 use crate::turn;
-use cbf_octets::{Last, Part, difference, octets, plain};
+use crate::turn::Way;
+use cbf_octets::{Last, Part, difference, plain};
 use cbf_pixels::ElementType;
 use cbf_sums::far::BIASED_LEAST;
-use cbf_sums::{far, near};
+use cbf_sums::{State, far, near};
 
 fn biased_zero(kind: ElementType) -> u64
     ensures { result ≡ biased_zero kind }
 {
     match kind {
-        ElementType::U8 => 1099511627776,
-        ElementType::S8 => 1099511627904,
-        ElementType::U16 => 1099511627776,
-        ElementType::S16 => 1099511660544,
-        ElementType::U32 => 1099511627776,
-        ElementType::S32 => 1101659111424,
+        ElementType::U8 | ElementType::U16 | ElementType::U32 => BIASED_LEAST,
+        ElementType::S8 => BIASED_LEAST + 128,
+        ElementType::S16 => BIASED_LEAST + 32768,
+        ElementType::S32 => BIASED_LEAST + 2147483648,
     }
 }
 
@@ -31,12 +30,9 @@ fn biased_greatest(kind: ElementType) -> u64
     ensures { result ≡ biased_greatest kind }
 {
     match kind {
-        ElementType::U8 => 1099511628031,
-        ElementType::S8 => 1099511628031,
-        ElementType::U16 => 1099511693311,
-        ElementType::S16 => 1099511693311,
-        ElementType::U32 => 1103806595071,
-        ElementType::S32 => 1103806595071,
+        ElementType::U8 | ElementType::S8 => BIASED_LEAST + 255,
+        ElementType::U16 | ElementType::S16 => BIASED_LEAST + 65535,
+        ElementType::U32 | ElementType::S32 => BIASED_LEAST + 4294967295,
     }
 }
 
@@ -47,36 +43,30 @@ fn sum(biased: u64, d: i64) -> u64
     (biased as i64 + d) as u64
 }
 
-// Biased pixels summed up: the last one, the bitwise or of all, and where the next difference starts.
+// Biased pixels summed up: the last one with where the next difference starts, and the bitwise or of all.
 #[derive(Clone, Copy)]
 pub struct Sums {
-    pub biased: u64,
+    pub to: State,
     pub all: u64,
-    pub next: usize,
 }
 
-// The 32 plain octets from s.next on.
+// The 32 plain octets after s.
 fn add_block(octets: &[u8], s: Sums) -> Sums
-    requires { (s.next + 32 ≤ length octets.now) × Plain octets.now s.next 32 × Summable 32 s.biased }
-    ensures { Adds octets.now 32 s.biased s.all s.next result.biased result.all result.next
-        × (result.next ≡ s.next + 32) }
+    requires { (s.to.next + 32 ≤ length octets.now) × Plain octets.now s.to.next 32 × Summable 32 s.to.biased }
+    ensures { Adds octets.now 32 s.to.biased s.all s.to.next result.to.biased result.all result.to.next
+        × (result.to.next ≡ s.to.next + 32) }
 {
-    let i = s.next;
-    let mut biased = s.biased;
+    let i = s.to.next;
+    let mut biased = s.to.biased;
     let mut all = s.all;
-    let mut j: usize = 0;
-    while j < 32 {
-        biased = sum(
-            biased,
-            difference::extended(octets::wide(octets[i + j]), 128),
-        );
-        all = all | biased;
-        j += 1;
+    for j in 0..32 {
+        biased = sum(biased, difference::extended(u64::from(octets[i + j]), 128));
+        all |= biased;
     }
+    let next = i + 32;
     Sums {
-        biased: biased,
-        all: all,
-        next: i + 32,
+        to: State { biased, next },
+        all,
     }
 }
 
@@ -84,7 +74,7 @@ fn add_block(octets: &[u8], s: Sums) -> Sums
 fn raised(o: u8) -> u32
     ensures { (result < 256) × (signed 1 o ≡ sub_ℕ result 128) }
 {
-    (o ^ 128) as u32
+    u32::from(o ^ 128)
 }
 
 // The differences of n plain octets from i on, summed up, each plus 128. No pixel is looked at: none leaves the type
@@ -93,111 +83,96 @@ fn sum_run(octets: &[u8], i: usize, n: usize) -> u32
     requires { (i + n ≤ length octets.now) × Plain octets.now i n × (n ≤ 4096) }
     ensures { Glides octets.now i n result }
 {
-    let mut total: u32 = 0;
-    let mut j: usize = 0;
-    while j < n {
+    let mut total = 0;
+    for j in 0..n {
         total += raised(octets[i + j]);
-        j += 1;
     }
     total
 }
 
-// The biased pixel after n plain octets from i on, or 0 where one of the pixels is outside its type.
-fn pass_run(octets: &[u8], i: usize, n: usize, biased: u64, top: u64) -> u64
-    requires { Top top × Between top biased × (i + n ≤ length octets.now) × Plain octets.now i n
+// n plain octets after at, each pixel tested.
+fn pass_run(octets: &[u8], at: State, n: usize, top: u64) -> Option<State>
+    requires { Top top × Between top at.biased × (at.next + n ≤ length octets.now) × Plain octets.now at.next n
         × (n % 32 ≡ 0) }
-    ensures { Passed top octets.now biased i n result (i + n) }
+    ensures { Stepped top octets.now at n result }
 {
     let mut s = Sums {
-        biased: biased,
+        to: at,
         all: BIASED_LEAST,
-        next: i,
     };
-    let mut j: usize = 0;
-    while j < n {
+    for _j in 0..n / 32 {
         s = add_block(octets, s);
         if top < s.all {
-            return 0;
+            return None;
         }
-        j += 32;
     }
-    s.biased
+    Some(s.to)
 }
 
-fn at_most_1024(n: usize) -> usize
-    ensures { (result ≤ n) × (result ≤ 1024) × (0 < n → 0 < result) × (n % 32 ≡ 0 → result % 32 ≡ 0) }
+// The same, None where it is not known: in each part of the run the pixels have to stay near the one before it.
+fn pass_near(octets: &[u8], at: State, n: usize, top: u64) -> Option<State>
+    requires { Top top × Between top at.biased × (at.next + n ≤ length octets.now) × Plain octets.now at.next n
+        × (n % 32 ≡ 0) × (3 ≤ at.next) }
+    ensures { IfSome result (λ to. Passed top octets.now at.biased at.next n to.biased to.next) }
 {
-    if n < 1024 { n } else { 1024 }
-}
-
-// The same, or 0 where it is not known: in each part of the run the pixels have to stay near the one before it.
-fn pass_near(octets: &[u8], i: usize, n: usize, biased: u64, top: u64) -> u64
-    requires { Top top × Between top biased × (i + n ≤ length octets.now) × Plain octets.now i n
-        × (n % 32 ≡ 0) × (3 ≤ i) }
-    ensures { (result ≡ 0 → ⊥) → Between top result × Passes top octets.now biased i n result (i + n) }
-{
-    let mut last = biased;
+    let mut last = at.biased;
     let mut j: usize = 0;
+    // Not a for: the last part may be shorter than the others.
     while j < n {
-        let m = at_most_1024(n - j);
+        let m = (n - j).min(1024);
         let base = far::base_of(last, top, 64);
-        let above = near::near(octets, i + j, m, (last - base) as u8);
-        if 127 < above {
-            return 0;
-        }
-        last = base + octets::wide(above);
+        let above = near::near(octets, at.next + j, m, (last - base) as u8)?;
+        last = base + u64::from(above);
         j += m;
     }
-    last
+    Some(State {
+        biased: last,
+        next: at.next + n,
+    })
 }
 
-// Whether pass_near is worth its start, and has the octets that it looks back at.
-fn is_long(i: usize, n: usize) -> bool
-    ensures { result ≡ true → 3 ≤ i }
-{
-    if n < 192 {
-        return false;
-    }
-    3 <= i
-}
-
-// The same, where the run is at most 4,096 octets long: none of its pixels leaves the type where the ends of that are
-// 128 times 4,096 away.
-pub fn pass_plain(octets: &[u8], i: usize, n: usize, biased: u64, top: u64) -> u64
-    requires { Top top × Between top biased × (i + n ≤ length octets.now) × Plain octets.now i n
+// The same as pass_run, where the run is at most 4,096 octets long: none of its pixels leaves the type where the ends
+// of that are 128 times 4,096 away. pass_near looks back at three octets, and is worth its start in a long run.
+pub fn pass_plain(octets: &[u8], at: State, n: usize, top: u64) -> Option<State>
+    requires { Top top × Between top at.biased × (at.next + n ≤ length octets.now) × Plain octets.now at.next n
         × (n % 32 ≡ 0) × (n ≤ 4096) }
-    ensures { Passed top octets.now biased i n result (i + n) }
+    ensures { Stepped top octets.now at n result }
 {
-    if far::is_far(biased, top, 524288) {
-        let total = sum_run(octets, i, n) as u64;
-        return biased + total - 128 * n as u64;
+    if far::is_far(at.biased, top, 524288) {
+        let total = u64::from(sum_run(octets, at.next, n));
+        return Some(State {
+            biased: at.biased + total - 128 * n as u64,
+            next: at.next + n,
+        });
     }
-    if is_long(i, n) {
-        let last = pass_near(octets, i, n, biased, top);
-        if last != 0 {
-            return last;
-        }
+    if 192 <= n
+        && 3 <= at.next
+        && let Some(to) = pass_near(octets, at, n, top)
+    {
+        return Some(to);
     }
-    pass_run(octets, i, n, biased, top)
+    pass_run(octets, at, n, top)
 }
 
 fn add_one(octets: &[u8], s: Sums) -> Sums
-    requires { (s.next + 15 ≤ length octets.now) × Summable 1 s.biased }
-    ensures { Adds octets.now 1 s.biased s.all s.next result.biased result.all result.next }
+    requires { (s.to.next + 15 ≤ length octets.now) × Summable 1 s.to.biased }
+    ensures { Adds octets.now 1 s.to.biased s.all s.to.next result.to.biased result.all result.to.next }
 {
-    let i = s.next;
-    let d = difference::read_difference(octets, i);
-    let biased = sum(s.biased, d.value);
-    Sums {
-        biased: biased,
-        all: s.all | biased,
+    let d = difference::read_difference(octets, s.to.next);
+    let biased = sum(s.to.biased, d.value);
+    let to = State {
+        biased,
         next: d.next,
+    };
+    Sums {
+        to,
+        all: s.all | biased,
     }
 }
 
 fn add_four(octets: &[u8], s: Sums) -> Sums
-    requires { (s.next + 60 ≤ length octets.now) × Summable 4 s.biased }
-    ensures { Adds octets.now 4 s.biased s.all s.next result.biased result.all result.next }
+    requires { (s.to.next + 60 ≤ length octets.now) × Summable 4 s.to.biased }
+    ensures { Adds octets.now 4 s.to.biased s.all s.to.next result.to.biased result.all result.to.next }
 {
     let a = add_one(octets, s);
     let b = add_one(octets, a);
@@ -205,78 +180,55 @@ fn add_four(octets: &[u8], s: Sums) -> Sums
     add_one(octets, c)
 }
 
-// The last biased pixel, 0 where pixels do not unpack, and where the next difference starts.
-#[derive(Clone, Copy)]
-pub struct State {
-    pub biased: u64,
-    pub next: usize,
-}
-
 // 32 pixels, where so many octets are left that none can run out of them.
-fn pass_32(octets: &[u8], i: usize, biased: u64, top: u64) -> State
-    requires { Top top × Between top biased × (i + 480 ≤ length octets.now) }
-    ensures { Passed top octets.now biased i 32 result.biased result.next }
+fn pass_32(octets: &[u8], at: State, top: u64) -> Option<State>
+    requires { Top top × Between top at.biased × (at.next + 480 ≤ length octets.now) }
+    ensures { Stepped top octets.now at 32 result }
 {
     let mut s = Sums {
-        biased: biased,
+        to: at,
         all: BIASED_LEAST,
-        next: i,
     };
-    let mut j: usize = 0;
-    while j < 32 {
+    // Four in each turn: with one, this pass takes 9 to 15 % more instructions for noise.
+    for _j in 0..8usize {
         s = add_four(octets, s);
-        j += 4;
     }
-    if top < s.all {
-        return State { biased: 0, next: 0 };
-    }
-    State {
-        biased: s.biased,
-        next: s.next,
-    }
+    if top < s.all { None } else { Some(s.to) }
 }
 
 // n pixels, at most 32, each tested by itself.
-fn pass_each(octets: &[u8], i: usize, biased: u64, top: u64, n: usize) -> State
-    requires { Top top × Between top biased × (i ≤ length octets.now) × (n ≤ 32) }
-    ensures { Passed top octets.now biased i n result.biased result.next }
+fn pass_each(octets: &[u8], at: State, n: usize, top: u64) -> Option<State>
+    requires { Top top × Between top at.biased × (at.next ≤ length octets.now) × (n ≤ 32) }
+    ensures { Stepped top octets.now at n result }
 {
-    let mut last = biased;
-    let mut next = i;
-    let mut j: usize = 0;
-    while j < n {
-        if !difference::whole(octets, next) {
-            return State { biased: 0, next: 0 };
+    let mut to = at;
+    for _j in 0..n {
+        if !difference::whole(octets, to.next) {
+            return None;
         }
-        let d = difference::read_difference(octets, next);
-        last = sum(last, d.value);
-        if last < BIASED_LEAST {
-            return State { biased: 0, next: 0 };
+        let d = difference::read_difference(octets, to.next);
+        let biased = sum(to.biased, d.value);
+        if biased < BIASED_LEAST || top < biased {
+            return None;
         }
-        if top < last {
-            return State { biased: 0, next: 0 };
-        }
-        next = d.next;
-        j += 1;
+        to = State {
+            biased,
+            next: d.next,
+        };
     }
-    State {
-        biased: last,
-        next: next,
-    }
+    Some(to)
 }
 
 // n pixels, at most 32.
-pub fn pass_few(octets: &[u8], i: usize, biased: u64, top: u64, n: usize) -> State
-    requires { Top top × Between top biased × (i ≤ length octets.now) × (n ≤ 32) }
-    ensures { Passed top octets.now biased i n result.biased result.next }
+pub fn pass_few(octets: &[u8], at: State, n: usize, top: u64) -> Option<State>
+    requires { Top top × Between top at.biased × (at.next ≤ length octets.now) × (n ≤ 32) }
+    ensures { Stepped top octets.now at n result }
 {
-    if n < 32 {
-        return pass_each(octets, i, biased, top, n);
+    if n < 32 || octets.len() - at.next < 480 {
+        pass_each(octets, at, n, top)
+    } else {
+        pass_32(octets, at, top)
     }
-    if octets.len() - i < 480 {
-        return pass_each(octets, i, biased, top, n);
-    }
-    pass_32(octets, i, biased, top)
 }
 
 fn biased_of(kind: ElementType, pixel: i64) -> u64
@@ -293,25 +245,14 @@ fn pixel_of(kind: ElementType, biased: u64) -> i64
     biased as i64 - biased_zero(kind) as i64
 }
 
-// k pixels that lead to s.
-fn passed(kind: ElementType, s: State, k: usize) -> Part
-    requires { Between (biased_greatest kind) s.biased }
-    ensures { (result.good ≡ true) × (result.count ≡ k) × (result.last.pixel ≡ pixel_at kind s.biased)
-        × (result.last.next ≡ s.next) }
-{
-    let last = Last {
-        pixel: pixel_of(kind, s.biased),
-        next: s.next,
-    };
-    Part {
-        good: true,
-        count: k,
-        last: last,
-    }
-}
-
 // Whether octets unpack to count pixels after s: those that are there, and all of them where the octets have ended.
-pub fn validate_part(kind: ElementType, octets: &[u8], ended: bool, s: Last, count: usize) -> Part
+pub fn validate_part(
+    kind: ElementType,
+    octets: &[u8],
+    ended: bool,
+    s: Last,
+    count: usize,
+) -> Option<Part>
     requires { (within (least kind) (greatest kind) s.pixel ≡ true) × (s.next ≤ length octets.now) }
     ensures { ValidPart kind octets.now ended s.pixel s.next count result }
 {
@@ -320,29 +261,20 @@ pub fn validate_part(kind: ElementType, octets: &[u8], ended: bool, s: Last, cou
         biased: biased_of(kind, s.pixel),
         next: s.next,
     };
-    let mut way: u64 = 1;
+    let mut way = Way::Run;
     let mut k: usize = 0;
-    while k < count {
-        let i = at.next;
-        if plain::waits(ended, octets.len() - i) {
-            return passed(kind, at, k);
-        }
-        let t = turn::pass_turn(octets, i, at.biased, top, count - k, way);
-        if t.biased == 0 {
-            return Part {
-                good: false,
-                count: 0,
-                last: s,
-            };
-        }
-        at = State {
-            biased: t.biased,
-            next: t.next,
-        };
+    // no `for`: how far a turn goes is known when it is over
+    while k < count && !plain::waits(ended, octets.len() - at.next) {
+        let t = turn::pass_turn(octets, at, top, count - k, way)?;
+        at = t.to;
         way = t.way;
         k += t.count;
     }
-    passed(kind, at, k)
+    let last = Last {
+        pixel: pixel_of(kind, at.biased),
+        next: at.next,
+    };
+    Some(Part { count: k, last })
 }
 
 // Whether the octets unpack to count pixels.
@@ -350,9 +282,9 @@ pub fn validate(kind: ElementType, octets: &[u8], count: usize) -> bool
     ensures { result ≡ is_some (unpack_byte_offset kind count octets.now) }
 {
     let start = Last { pixel: 0, next: 0 };
-    let all = validate_part(kind, octets, true, start, count);
-    if !all.good {
-        return false;
+    // a `match`: what the closure of `is_some_and` ensures was out of the proof's reach
+    match validate_part(kind, octets, true, start, count) {
+        Some(all) => all.last.next == octets.len(),
+        None => false,
     }
-    all.last.next == octets.len()
 }

@@ -1,27 +1,25 @@
--- The parts of Content-Type, at places of the file.
-use Rattle.std.specs.Prelude.{◌≡◌, Bool, true, false, cond, List, [], ◌∷◌, ℕ, ◌+◌, ◌≤◌, eqb}
-use Rattle.std.proofs.Math.Option.{Option, none, some}
-use Rattle.std.proofs.Math.Seq.{slice}
-use Rattle.cbf_format.specs.Values.{parts, content_type}
-use Rattle.cbf_values.specs.declared.content_type.PartEnd.{PartEnd}
+-- The parts of Content-Type.
+use Rattle.std.specs.Prelude.{false, List, [], ◌∷◌, ℕ, Option, None, Some}
+use Rattle.std.specs.Borrow.{Bor}
+use Rattle.cbf_format.specs.Text.{bytes, trim}
+use Rattle.cbf_format.specs.Values.{parts, quoted_one_of, unquote}
 use Rattle.cbf_values.specs.Value.{joined}
-use Rattle.cbf_values.specs.declared.content_type.PartEnd.TheVariants as P
 
 -- a part before others
 abbrev pub part_then : List ℕ → Option (List (List ℕ)) → Option (List (List ℕ))
-part_then p none = none
-part_then p (some ps) = some (p ∷ ps)
+part_then p None = None
+part_then p (Some ps) = Some (p ∷ ps)
 
--- the bytes from at up to the end of a part of Content-Type, and what follows it
-abbrev pub PartAt : List ℕ → ℕ → ℕ → PartEnd → Type 0
-PartAt file at to P.Unclosed = parts false (joined (slice at to file)) ≡ none
-PartAt file at to (P.At p) = (parts false (joined (slice at to file)) ≡ part_then (joined (slice at p file))
-    (cond (eqb p to) (some []) (parts false (joined (slice (p + 1) to file))))) × (at ≤ p) × (p ≤ to)
+-- the parts of what follows a part's `;`, none where nothing follows
+abbrev pub following : Option (Bor (List ℕ)) → Option (List (List ℕ))
+following None = Some []
+following (Some rest) = parts false (joined rest.now)
 
--- what the parts after the `;` at a place say, or no part
-unfoldable pub later_parts : List ℕ → ℕ → ℕ → Option ℕ
-later_parts file at to = content_type (part_then [] (cond (eqb at to) (some []) (parts false (joined (slice (at + 1) to file)))))
+-- the parts, from the first one and what follows it; none where a quote is not closed
+abbrev pub parts_from : Option (Bor (List ℕ) × Option (Bor (List ℕ))) → Option (List (List ℕ))
+parts_from None = None
+parts_from (Some p) = part_then (joined p.0.now) (following p.1)
 
-abbrev pub some_of : Option ℕ → Bool
-some_of none = false
-some_of (some n) = true
+-- the value of conversions
+abbrev pub offset : List ℕ → Option ℕ
+offset t = quoted_one_of 1 (bytes "x-cbf_byte_offset" ∷ []) (unquote (trim t))

@@ -1,134 +1,80 @@
 // The value of Content-Type: parts that end at `;` outside quotes, of which one may name the compression.
-ghost use Rattle.std.specs.Prelude.{◌≡◌, false, [], ◌∷◌, ◌≤◌, length};
-ghost use Rattle.std.proofs.Math.Seq.{slice};
-ghost use Rattle.cbf_format.specs.Values.{with_part, quoted_one_of, unquote, content_type, parts};
-ghost use Rattle.cbf_format.specs.Text.{bytes, trim};
-ghost use Rattle.cbf_lines.specs.Text.{Run, in_class};
-ghost use Rattle.cbf_lines.specs.declared.text.Class.TheVariants.{Not};
-ghost use Rattle.cbf_values.specs.Value.{joined, whole_of};
-ghost use Rattle.cbf_values.specs.ContentType.{some_of, PartAt, later_parts};
+ghost use Rattle.std.specs.Prelude.{◌≡◌, ◌<◌, false, [], length, is_some, option_map, unwrap_or, IfSome};
+ghost use Rattle.cbf_format.specs.Text.{before, after};
+ghost use Rattle.cbf_format.specs.Values.{with_part, content_type, parts};
+ghost use Rattle.cbf_values.specs.Value.{joined};
+ghost use Rattle.cbf_values.specs.ContentType.{offset, parts_from};
 
-use crate::header::Inner;
-use crate::value::Whole;
-use crate::{header, value};
+use crate::value;
 use cbf_format::Conversion;
-use cbf_lines::text;
-use cbf_lines::text::Class;
-
-// The place of the first `=` of a part, or its end.
-fn equals(file: &[u8], from: usize, to: usize) -> usize
-    requires { (from ≤ to) × (to ≤ length file.now) }
-    ensures { Run (in_class (Not 61)) file.now from to result }
-{
-    text::after(file, from, to, Class::Not(61))
-}
 
 // Whether the text is the name of byte offset, quoted or not.
-fn is_byte_offset(file: &[u8], from: usize, to: usize) -> bool
-    requires { (from ≤ to) × (to ≤ length file.now) }
-    ensures { result ≡ some_of (quoted_one_of 1 (bytes "x-cbf_byte_offset" ∷ [])
-        (unquote (trim (joined (slice from to file.now))))) }
+fn is_byte_offset(text: &[u8]) -> bool
+    ensures { result ≡ is_some (offset (joined text.now)) }
 {
-    let inside = value::trimmed(file, from, to);
-    let inside_from = inside.from;
-    let inside_to = inside.to;
-    let inner = header::unquoted(file, inside_from, inside_to);
-    match inner {
-        Inner::Bad => false,
-        Inner::Text(a, b) => value::is_value(file, a, b, b"x-cbf_byte_offset"),
+    value::unquoted(value::trimmed(text)).is_some_and(|t| value::is_value(t, b"x-cbf_byte_offset"))
+}
+
+// What stands before the first `=` of a part, and after it if there is one.
+fn at_equals(part: &[u8]) -> (&[u8], Option<&[u8]>)
+    ensures before { joined result.0.now ≡ before 61 (joined part.now) }
+    ensures after { unwrap_or (option_map (λ t. joined t.now) result.1) [] ≡ after 61 (joined part.now) }
+{
+    match part.iter().position(|b| *b == b'=') {
+        Some(i) => (&part[..i], Some(&part[i + 1..])),
+        None => (part, None),
     }
 }
 
 // What is said of conversions with one part more.
-fn with_part(file: &[u8], from: usize, to: usize, found: Conversion) -> Conversion
-    requires { (from ≤ to) × (to ≤ length file.now) }
-    ensures { result ≡ with_part found (joined (slice from to file.now)) }
+fn with_part(part: &[u8], found: Conversion) -> Conversion
+    ensures { result ≡ with_part found (joined part.now) }
 {
-    let middle = equals(file, from, to);
-    let name = value::trimmed(file, from, middle);
-    let name_from = name.from;
-    let name_to = name.to;
-    if !value::is_value(file, name_from, name_to, b"conversions") {
+    let (name, value) = at_equals(part);
+    if !value::is_value(value::trimmed(name), b"conversions") {
         return found;
     }
-    match found {
-        Conversion::Seen => Conversion::Wrong,
-        Conversion::Wrong => Conversion::Wrong,
-        Conversion::Unseen => {
-            if middle == to {
-                return Conversion::Wrong;
-            }
-            if is_byte_offset(file, middle + 1, to) {
-                return Conversion::Seen;
-            }
-            Conversion::Wrong
-        }
+    match (found, value) {
+        (Conversion::Unseen, Some(value)) if is_byte_offset(value) => Conversion::Seen,
+        _ => Conversion::Wrong,
     }
 }
 
-// The end of a part: its `;` outside quotes or the value's end; or that a quote is not closed.
-#[derive(Clone, Copy)]
-pub enum PartEnd {
-    Unclosed,
-    At(usize),
-}
-
-fn part_end(file: &[u8], at: usize, to: usize) -> PartEnd
-    requires { (at ≤ to) × (to ≤ length file.now) }
-    ensures { PartAt file.now at to result }
+// The first part, up to a `;` outside quotes, and what follows the `;` if there is one; None where a quote is not
+// closed.
+fn first_part(text: &[u8]) -> Option<(&[u8], Option<&[u8]>)>
+    ensures parts { parts false (joined text.now) ≡ parts_from result }
+    ensures shorter { IfSome result (λ p. IfSome p.1 (λ rest. length rest.now < length text.now)) }
 {
     let mut quoted = false;
-    let mut i = at;
-    while i < to {
-        let b = file[i];
-        if b == 34 {
-            quoted = !quoted;
+    for (i, b) in text.iter().enumerate() {
+        match b {
+            b'"' => quoted = !quoted,
+            b';' if !quoted => return Some((&text[..i], Some(&text[i + 1..]))),
+            _ => {}
         }
-        if b == 59 {
-            if !quoted {
-                return PartEnd::At(i);
-            }
-        }
-        i += 1;
     }
     if quoted {
-        return PartEnd::Unclosed;
+        return None;
     }
-    PartEnd::At(i)
-}
-
-// What the parts after the `;` at at say, if there are any.
-fn later_parts(file: &[u8], from: usize, to: usize) -> Whole
-    requires { (from ≤ to) × (to ≤ length file.now) }
-    ensures { result ≡ whole_of (later_parts file.now from to) }
-{
-    let mut found = Conversion::Unseen;
-    let mut at = from;
-    while at < to {
-        let end = part_end(file, at + 1, to);
-        match end {
-            PartEnd::Unclosed => return Whole::Bad,
-            PartEnd::At(p) => {
-                found = with_part(file, at + 1, p, found);
-                at = p;
-            }
-        }
-    }
-    match found {
-        Conversion::Unseen => Whole::Number(0),
-        Conversion::Seen => Whole::Number(1),
-        Conversion::Wrong => Whole::Bad,
-    }
+    Some((text, None))
 }
 
 // The compression that the value names: 0 for none, 1 for byte offset.
-pub fn content_type(file: &[u8], from: usize, to: usize) -> Whole
-    requires { (from ≤ to) × (to ≤ length file.now) }
-    ensures { result ≡ whole_of (content_type (parts false (joined (slice from to file.now)))) }
+pub fn content_type(text: &[u8]) -> Option<u64>
+    ensures { result ≡ content_type (parts false (joined text.now)) }
 {
-    let first = part_end(file, from, to);
-    match first {
-        PartEnd::Unclosed => Whole::Bad,
-        PartEnd::At(p) => later_parts(file, p, to),
+    // the first part is free
+    let (_, mut rest) = first_part(text)?;
+    let mut found = Conversion::Unseen;
+    while let Some(text) = rest {
+        let (part, next) = first_part(text)?;
+        found = with_part(part, found);
+        rest = next;
+    }
+    match found {
+        Conversion::Unseen => Some(0),
+        Conversion::Seen => Some(1),
+        Conversion::Wrong => None,
     }
 }

@@ -1,34 +1,33 @@
 // The value of a known header.
-ghost use Rattle.std.specs.Prelude.{◌≡◌, ◌≤◌, length};
-ghost use Rattle.std.proofs.Math.Seq.{slice};
+ghost use Rattle.std.specs.Prelude.{◌≡◌};
 ghost use Rattle.cbf_format.specs.Text.{trim};
 ghost use Rattle.cbf_format.specs.Values.{value_of};
-ghost use Rattle.cbf_values.specs.Value.{joined, whole_of};
+ghost use Rattle.cbf_values.specs.Value.{joined};
 ghost use Rattle.cbf_values.specs.KnownValue.{InRangeOf};
 
-use crate::value::Whole;
-use crate::{content_type, header, value};
+use crate::content_type::content_type;
+use crate::header::{BYTE_ORDERS, ENCODINGS, TYPES, one_of};
+use crate::value::{number, trimmed, unquoted};
 use cbf_answers::{FILE_LIMIT, PIXEL_LIMIT};
 use cbf_format::KnownHeader;
 
-// The value, from `from` up to to, of a known header.
-pub fn known_value(file: &[u8], known: KnownHeader, from: usize, to: usize) -> Whole
-    requires { (from ≤ to) × (to ≤ length file.now) }
-    ensures { (result ≡ whole_of (value_of known (trim (joined (slice from to file.now))))) × InRangeOf result }
+// The value of a known header, None where it is bad.
+pub fn known_value(text: &[u8], known: KnownHeader) -> Option<u64>
+    ensures { (result ≡ value_of known (trim (joined text.now))) × InRangeOf result }
 {
-    let text = value::trimmed(file, from, to);
-    let text_from = text.from;
-    let text_to = text.to;
+    let text = trimmed(text);
     match known {
-        KnownHeader::TransferEncoding => header::encoding(file, text_from, text_to),
-        KnownHeader::Size => value::number(file, text_from, text_to, 0, FILE_LIMIT as u64),
-        KnownHeader::Elements => value::number(file, text_from, text_to, 0, PIXEL_LIMIT as u64),
-        KnownHeader::ContentType => content_type::content_type(file, text_from, text_to),
-        KnownHeader::Kind => header::quoted_element_type(file, text_from, text_to),
-        KnownHeader::ByteOrder => header::quoted_byte_order(file, text_from, text_to),
-        KnownHeader::Id => value::number(file, text_from, text_to, 1, 2147483647),
-        KnownHeader::Fastest => value::number(file, text_from, text_to, 1, PIXEL_LIMIT as u64),
-        KnownHeader::Second => value::number(file, text_from, text_to, 1, PIXEL_LIMIT as u64),
-        KnownHeader::Third => value::number(file, text_from, text_to, 1, PIXEL_LIMIT as u64),
+        KnownHeader::TransferEncoding => one_of(text, &ENCODINGS, 0),
+        KnownHeader::Size => number(text, 0, FILE_LIMIT as u64),
+        KnownHeader::Elements => number(text, 0, PIXEL_LIMIT as u64),
+        KnownHeader::ContentType => content_type(text),
+        KnownHeader::Kind => one_of(unquoted(text)?, &TYPES, 1),
+        KnownHeader::ByteOrder => one_of(unquoted(text)?, &BYTE_ORDERS, 1),
+        KnownHeader::Id => number(text, 1, 2147483647),
+        KnownHeader::Fastest | KnownHeader::Second | KnownHeader::Third => number(
+            text,
+            1,
+            PIXEL_LIMIT as u64,
+        ),
     }
 }

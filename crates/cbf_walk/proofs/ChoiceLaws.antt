@@ -1,7 +1,7 @@
 -- Many sections rewritten at once: the new items are good, one rewriting after another is one rewriting, choices that
 -- agree give the same items, which sections there are then and where, and the new file. Assumes nothing.
 use mathlib.Core.Path.{◌≡◌, refl, sym, ap, ◌∙◌}
-use mathlib.Core.Option.{Option, none, some}
+use Rattle.std.specs.Prelude.{Option, None, Some}
 use mathlib.Core.List.{List, [], ◌∷◌, ◌++◌, append_assoc}
 use Prim.Native.Nat.{ℕ, zero, suc, ◌+◌, ◌≤◌}
 use native.Mathlib.Nat.{not-suc-le-zero}
@@ -25,8 +25,8 @@ Items St Info = List (Item St Info)
 -- ---- which sections there are, and where
 
 abbrev pub info_then : {Info : Type 0} → Choice Info → ℕ → Option Info → Option Info
-info_then c n none = none
-info_then c n (some i) = some (chosen_info (c n i) i)
+info_then c n None = None
+info_then c n (Some i) = Some (chosen_info (c n i) i)
 
 module _ {St Info : Type 0} (width : Info → ℕ) (c : Choice Info) where
   -- each section keeps its number
@@ -38,7 +38,7 @@ module _ {St Info : Type 0} (width : Info → ℕ) (c : Choice Info) where
   nth-rewrite = by-items NumbersKept (λ n m. refl) (λ it its ih. ih) go
     where
       go : Section NumbersKept
-      go it a its ih n zero = let z : n ≡ n + 0 = omega arith in ap (λ (k : ℕ). some (chosen_info (c k a) a)) z
+      go it a its ih n zero = let z : n ≡ n + 0 = omega arith in ap (λ (k : ℕ). Some (chosen_info (c k a) a)) z
       go it a its ih n (suc m) =
           let z : suc n + m ≡ n + suc m = omega arith in ih (suc n) m ∙ ap (λ (k : ℕ). info_then c k (nth m its)) z
 
@@ -65,7 +65,7 @@ module _ {St Info : Type 0} (step : St → Parser (Option Info × St)) (due : St
   -- each chosen span is lawful, where the first of these sections has number n
   abbrev pub AllLawful : ℕ → Items St Info → Type 0
   AllLawful n its =
-      (m : ℕ) (i : Info) (wv : List ℕ × Info) → nth m its ≡ some i → c (n + m) i ≡ some wv → Lawful step width i wv
+      (m : ℕ) (i : Info) (wv : List ℕ × Info) → nth m its ≡ Some i → c (n + m) i ≡ Some wv → Lawful step width i wv
 
   abbrev SameStart : St → Items St Info → Items St Info → Type 0
   SameStart st new its = Good step due st new × (hd (flat new) ≡ hd (flat its))
@@ -86,7 +86,7 @@ module _ {St Info : Type 0} (step : St → Parser (Option Info × St)) (due : St
       )
 
       plain : Plain StaysGood
-      plain it its ih st n l g = later st (item it none) its (rewrite width c n its) g (ih it.next n l g.2)
+      plain it its ih st n l g = later st (item it None) its (rewrite width c n its) g (ih it.next n l g.2)
 
       go : Section StaysGood
       go it a its ih st n l g = by (c n a) refl
@@ -101,13 +101,13 @@ module _ {St Info : Type 0} (step : St → Parser (Option Info × St)) (due : St
               let z : n + suc m ≡ suc n + m = omega arith in l (suc m) i wv e (ap (λ (k : ℕ). c k i) z ∙ q))
               g.2
 
-          kept : SameStart st (item it (some a) ∷ new) (item it (some a) ∷ its)
-          kept = later st (item it (some a)) its new g rest
+          kept : SameStart st (item it (Some a) ∷ new) (item it (Some a) ∷ its)
+          kept = later st (item it (Some a)) its new g rest
 
           by : (o : Chosen Info) → c n a ≡ o
-              → SameStart st (renewed width o (item it (some a)) a ∷ new) (item it (some a) ∷ its)
-          by none q = kept
-          by (some wv) q =
+              → SameStart st (renewed width o (item it (Some a)) a ∷ new) (item it (Some a) ∷ its)
+          by None q = kept
+          by (Some wv) q =
               let u = l 0 a wv refl (let z : n + 0 ≡ n = omega arith in ap (λ (k : ℕ). c k a) z ∙ q) in
               let w = wv.0 in
               let end = drop (width a) it.bytes in
@@ -119,24 +119,24 @@ module _ {St Info : Type 0} (step : St → Parser (Option Info × St)) (due : St
 -- ---- one rewriting after another
 
 module _ {St Info : Type 0} (width : Info → ℕ) (c d : Choice Info)
-    (spans : (n : ℕ) (i : Info) (wv : List ℕ × Info) → c n i ≡ some wv → width wv.1 ≡ length wv.0) where
+    (spans : (n : ℕ) (i : Info) (wv : List ℕ × Info) → c n i ≡ Some wv → width wv.1 ≡ length wv.0) where
   abbrev OneRewriting : Items St Info → Type 0
   OneRewriting its = (n : ℕ) → rewrite width d n (rewrite width c n its) ≡ rewrite width (and_then c d) n its
 
   -- is one rewriting
   pub rewrite-then : (its : Items St Info) → OneRewriting its
   unfolding rewrite
-  rewrite-then = by-items OneRewriting (λ n. refl) (λ it its ih n. λ k. item it none ∷ ih n k) go
+  rewrite-then = by-items OneRewriting (λ n. refl) (λ it its ih n. λ k. item it None ∷ ih n k) go
     where
       go : Section OneRewriting
       go it a its ih n = λ k. by (c n a) refl k ∷ ih (suc n) k
         where
           by : (o : Chosen Info) → c n a ≡ o
-              → (let it' = renewed width o (item it (some a)) a in
+              → (let it' = renewed width o (item it (Some a)) a in
               let i = chosen_info o a in
-              renewed width (d n i) it' i ≡ renewed width (after_or d n a o) (item it (some a)) a)
-          by none q = refl
-          by (some wv) q = twice (d n wv.1)
+              renewed width (d n i) it' i ≡ renewed width (after_or d n a o) (item it (Some a)) a)
+          by None q = refl
+          by (Some wv) q = twice (d n wv.1)
             where
               end : List ℕ
               end = drop (width a) it.bytes
@@ -145,22 +145,22 @@ module _ {St Info : Type 0} (width : Info → ℕ) (c d : Choice Info)
               z = drop_at wv.0 end (width wv.1) (sym (spans n a wv q))
 
               twice : (o : Chosen Info)
-                  → renewed width o (renewed width (some wv) (item it (some a)) a) wv.1
-                  ≡ renewed width (then_or wv o) (item it (some a)) a
-              twice none = refl
-              twice (some e) = λ k. record { bytes = e.0 ++ z k; info = some e.1; next = it.next }
+                  → renewed width o (renewed width (Some wv) (item it (Some a)) a) wv.1
+                  ≡ renewed width (then_or wv o) (item it (Some a)) a
+              twice None = refl
+              twice (Some e) = λ k. record { bytes = e.0 ++ z k; info = Some e.1; next = it.next }
 
 -- ---- choices that agree
 
 module _ {St Info : Type 0} (width : Info → ℕ) (c d : Choice Info) where
   abbrev Agrees : Items St Info → Type 0
-  Agrees its = (n : ℕ) → ((m : ℕ) (i : Info) → nth m its ≡ some i → c (n + m) i ≡ d (n + m) i)
+  Agrees its = (n : ℕ) → ((m : ℕ) (i : Info) → nth m its ≡ Some i → c (n + m) i ≡ d (n + m) i)
       → rewrite width c n its ≡ rewrite width d n its
 
   -- give the same items
   pub rewrite-same : (its : Items St Info) → Agrees its
   unfolding rewrite nth
-  rewrite-same = by-items Agrees (λ n h. refl) (λ it its ih n h. λ k. item it none ∷ ih n h k) go
+  rewrite-same = by-items Agrees (λ n h. refl) (λ it its ih n h. λ k. item it None ∷ ih n h k) go
     where
       go : Section Agrees
       go it a its ih n h =
@@ -169,7 +169,7 @@ module _ {St Info : Type 0} (width : Info → ℕ) (c d : Choice Info) where
           let on = ih (suc n) (λ m i q.
           let y : n + suc m ≡ suc n + m = omega arith in
           ap (λ (j : ℕ). c j i) (sym y) ∙ h (suc m) i q ∙ ap (λ (j : ℕ). d j i) y) in
-          λ k. renewed width (e k) (item it (some a)) a ∷ on k
+          λ k. renewed width (e k) (item it (Some a)) a ∷ on k
 
 -- ---- the new file
 
@@ -194,8 +194,8 @@ same-exchanged file new at (x ∷ xs) at' (y ∷ ys) s =
     ∙ slice-drop at' y.from new h.new_order
 
 module _ {St Info : Type 0} (width : Info → ℕ) (c : Choice Info)
-    (again : (n : ℕ) (i : Info) (wv : List ℕ × Info) → c n i ≡ some wv
-    → (width wv.1 ≡ length wv.0) × (c n wv.1 ≡ some wv)) where
+    (again : (n : ℕ) (i : Info) (wv : List ℕ × Info) → c n i ≡ Some wv
+    → (width wv.1 ≡ length wv.0) × (c n wv.1 ≡ Some wv)) where
   -- items behind the p bytes `pre` of a file, and, rewritten, behind the p' bytes `pre'` of the new one; what `pre` has
   -- from `at` on is the same as what `pre'` has from `at'` on
   record Behind (its its' : Items St Info) (file new pre pre' : List ℕ) (at at' p p' : ℕ) : Type 0 where
@@ -238,7 +238,7 @@ module _ {St Info : Type 0} (width : Info → ℕ) (c : Choice Info)
   -- a chosen span more
   module _ (its its' : Items St Info) (it : Item St Info) (a : Info) (wv : List ℕ × Info) (file new pre pre' : List ℕ)
       (at at' p p' : ℕ) (wide : width wv.1 ≡ length wv.0) (span-in : width a ≤ length it.bytes)
-      (h : Behind (it ∷ its) (renewed width (some wv) it a ∷ its') file new pre pre' at at' p p') where
+      (h : Behind (it ∷ its) (renewed width (Some wv) it a ∷ its') file new pre pre' at at' p p') where
     abbrev w : List ℕ
     w = wv.0
 
@@ -292,17 +292,17 @@ module _ {St Info : Type 0} (width : Info → ℕ) (c : Choice Info)
           rest = rewrite width c (suc n) its
 
           by : (o : Chosen Info) → c n a ≡ o
-              → Behind (item it (some a) ∷ its) (renewed width o (item it (some a)) a ∷ rest)
+              → Behind (item it (Some a) ∷ its) (renewed width o (item it (Some a)) a ∷ rest)
               file new pre pre' at at' p p'
               → SameOutside file new at (span_or width o p a (chosen_spans width c (suc n) (p + length it.bytes) its))
-              at' (chosen_spans width c n p' (renewed width o (item it (some a)) a ∷ rest))
-          by none q h = rw q (ih (suc n) file new _ _ at at' _ _ g.1 (passed pre pre' h))
-          by (some wv) q h =
+              at' (chosen_spans width c n p' (renewed width o (item it (Some a)) a ∷ rest))
+          by None q h = rw q (ih (suc n) file new _ _ at at' _ _ g.1 (passed pre pre' h))
+          by (Some wv) q h =
               let z = again n a wv q in
               rw z.1 (
-                chosen-before its rest (item it (some a)) a wv file new pre pre' at at' p p' z.0 g.0 h,
+                chosen-before its rest (item it (Some a)) a wv file new pre pre' at at' p p' z.0 g.0 h,
                 ih (suc n) file new _ _ _ _ _ _ g.1
-                    (chosen-further its rest (item it (some a)) a wv file new pre pre' at at' p p' z.0 g.0 h),
+                    (chosen-further its rest (item it (Some a)) a wv file new pre pre' at at' p p' z.0 g.0 h),
               )
 
   -- the new file has the chosen spans exchanged, and every other byte is in its place

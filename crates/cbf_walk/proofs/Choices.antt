@@ -1,6 +1,6 @@
 -- Many sections rewritten at once.
 use mathlib.Core.Path.{◌≡◌}
-use mathlib.Core.Option.{Option, none, some}
+use Rattle.std.specs.Prelude.{Option, None, Some}
 use mathlib.Core.List.{List, [], ◌∷◌, ◌++◌}
 use Prim.Native.Nat.{ℕ, zero, suc, ◌+◌, ◌≤◌, ◌<◌}
 use lib.ListN.{length, drop}
@@ -20,21 +20,21 @@ Choice Info = ℕ → Info → Chosen Info
 module _ {Info : Type 0} where
   -- what is read of a section then, and its item's bytes, of which the first k are the span
   abbrev pub chosen_info : Chosen Info → Info → Info
-  chosen_info none i = i
-  chosen_info (some wv) i = wv.1
+  chosen_info None i = i
+  chosen_info (Some wv) i = wv.1
 
   abbrev pub chosen_item : Chosen Info → ℕ → List ℕ → List ℕ
-  chosen_item none k b = b
-  chosen_item (some wv) k b = wv.0 ++ drop k b
+  chosen_item None k b = b
+  chosen_item (Some wv) k b = wv.0 ++ drop k b
 
 module _ {St Info : Type 0} (width : Info → ℕ) where
   abbrev pub renewed : Chosen Info → Item St Info → Info → Item St Info
   renewed o it i =
-      record { bytes = chosen_item o (width i) it.bytes; info = some (chosen_info o i); next = it.next }
+      record { bytes = chosen_item o (width i) it.bytes; info = Some (chosen_info o i); next = it.next }
 
   abbrev pub rewrite_or : Choice Info → Option Info → ℕ → Item St Info → (ℕ → List (Item St Info)) → List (Item St Info)
-  rewrite_or c none n it go = it ∷ go n
-  rewrite_or c (some i) n it go = renewed (c n i) it i ∷ go (suc n)
+  rewrite_or c None n it go = it ∷ go n
+  rewrite_or c (Some i) n it go = renewed (c n i) it i ∷ go (suc n)
 
   -- each section as it is chosen, where the first of these has number n; every other item as it was
   unfoldable pub rewrite : Choice Info → ℕ → List (Item St Info) → List (Item St Info)
@@ -44,12 +44,12 @@ module _ {St Info : Type 0} (width : Info → ℕ) where
 -- first c, and then d, which sees what c gave
 module _ {Info : Type 0} where
   abbrev pub then_or : (List ℕ × Info) → Chosen Info → Chosen Info
-  then_or wv none = some wv
-  then_or wv (some e) = some e
+  then_or wv None = Some wv
+  then_or wv (Some e) = Some e
 
   abbrev pub after_or : Choice Info → ℕ → Info → Chosen Info → Chosen Info
-  after_or d n i none = d n i
-  after_or d n i (some wv) = then_or wv (d n wv.1)
+  after_or d n i None = d n i
+  after_or d n i (Some wv) = then_or wv (d n wv.1)
 
   abbrev pub and_then : Choice Info → Choice Info → Choice Info
   and_then c d n i = after_or d n i (c n i)
@@ -58,12 +58,12 @@ module _ {Info : Type 0} where
 
 module _ {Info : Type 0} where
   abbrev pub span_or : (Info → ℕ) → Chosen Info → ℕ → Info → List Exchange → List Exchange
-  span_or width none at i xs = xs
-  span_or width (some wv) at i xs = record { from = at; to = at + width i; new = wv.0 } ∷ xs
+  span_or width None at i xs = xs
+  span_or width (Some wv) at i xs = record { from = at; to = at + width i; new = wv.0 } ∷ xs
 
   abbrev pub spans_or : (Info → ℕ) → Choice Info → Option Info → ℕ → ℕ → (ℕ → List Exchange) → List Exchange
-  spans_or width c none n at go = go n
-  spans_or width c (some i) n at go = span_or width (c n i) at i (go (suc n))
+  spans_or width c None n at go = go n
+  spans_or width c (Some i) n at go = span_or width (c n i) at i (go (suc n))
 
 module _ {St Info : Type 0} where
   -- the spans, of items whose bytes start at a place
@@ -73,9 +73,9 @@ module _ {St Info : Type 0} where
       spans_or width c it.info n at (λ m. chosen_spans width c m (at + length it.bytes) its)
 
   abbrev pub before_or : Option Info → ℕ → Item St Info → (ℕ → List (Item St Info)) → List (Item St Info)
-  before_or none m it go = it ∷ go m
-  before_or (some i) zero it go = []
-  before_or (some i) (suc m) it go = it ∷ go m
+  before_or None m it go = it ∷ go m
+  before_or (Some i) zero it go = []
+  before_or (Some i) (suc m) it go = it ∷ go m
 
   -- the items before section m
   unfoldable pub before : ℕ → List (Item St Info) → List (Item St Info)
@@ -85,10 +85,10 @@ module _ {St Info : Type 0} where
 -- the new span of section i is read where the old one was, with the same state after it, and begins with the same byte
 pub record Lawful {St Info : Type 0} (step : St → Parser (Option Info × St)) (width : Info → ℕ)
     (i : Info) (wv : List ℕ × Info) : Type 0 where
-  pub reads : (st t : St) (b r : List ℕ) → step st (b ++ r) ≡ ok (some i, t) (length b)
-      → step st ((wv.0 ++ drop (width i) b) ++ r) ≡ ok (some wv.1, t) (length (wv.0 ++ drop (width i) b))
+  pub reads : (st t : St) (b r : List ℕ) → step st (b ++ r) ≡ ok (Some i, t) (length b)
+      → step st ((wv.0 ++ drop (width i) b) ++ r) ≡ ok (Some wv.1, t) (length (wv.0 ++ drop (width i) b))
   pub some_byte : 0 < length wv.0
-  pub same_byte : (st t : St) (b r q : List ℕ) → step st (b ++ r) ≡ ok (some i, t) (length b)
+  pub same_byte : (st t : St) (b r q : List ℕ) → step st (b ++ r) ≡ ok (Some i, t) (length b)
       → hd (wv.0 ++ q) ≡ hd (b ++ r)
 
 -- of a file and a new one: `ys` of the new file stand where `xs` of the file stood, with what those were exchanged for,

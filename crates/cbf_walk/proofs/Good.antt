@@ -1,6 +1,6 @@
 -- Items that stepping gives.
 use mathlib.Core.Path.{◌≡◌}
-use mathlib.Core.Option.{Option, none}
+use Rattle.std.specs.Prelude.{Option, None}
 use mathlib.Core.List.{List, [], ◌∷◌, ◌++◌}
 use Prim.Native.Nat.{ℕ, ◌<◌}
 use lib.ListN.{length, take, drop}
@@ -9,7 +9,7 @@ use Rattle.cbf_walk.specs.Reading.{Item, flat}
 
 -- the items are what stepping from a state gives
 unfoldable pub Good : {St Info : Type 0} → (St → Parser (Option Info × St)) → (St → Option ℕ) → St → List (Item St Info) → Type 0
-Good step due st [] = due st ≡ none
+Good step due st [] = due st ≡ None
 Good step due st (it ∷ its) =
     (step st (it.bytes ++ flat its) ≡ ok (it.info, it.next) (length it.bytes)) × (0 < length it.bytes) × Good step due it.next its
 

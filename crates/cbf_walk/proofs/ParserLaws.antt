@@ -1,6 +1,7 @@
 -- What a success of each combinator says, and that each is tame and moves where its parts do. Assumes nothing.
 use mathlib.Core.Path.{◌≡◌, refl, sym, ap, ◌∙◌}
-use mathlib.Core.Option.{Option, none, some, some-ne-none}
+use Rattle.std.specs.Prelude.{Option, None, Some}
+use Rattle.std.proofs.lemmas.Option.{none-some}
 use mathlib.Core.List.{List, [], ◌∷◌, ◌++◌, append_assoc}
 use Prim.Native.Nat.{ℕ, ◌+◌, ◌≤◌}
 use native.Mathlib.Omega.{arith}
@@ -124,14 +125,14 @@ module _ {A : Type 0} where
 
   -- ---- a parser whose value is tested
 
-  pub unscreen : (c : A → Option (ℕ × ℕ)) (x : Res A) (a : A) (n : ℕ) → screen c x ≡ ok a n → (x ≡ ok a n) × (c a ≡ none)
+  pub unscreen : (c : A → Option (ℕ × ℕ)) (x : Res A) (a : A) (n : ℕ) → screen c x ≡ ok a n → (x ≡ ok a n) × (c a ≡ None)
   unscreen c (bad k q) a n e = absurd (bad≢ok e)
   unscreen c cut a n e = absurd (cut≢ok e)
   unscreen c (ok b m) a n e = go (c b) refl e
     where
-      go : (o : Option (ℕ × ℕ)) → c b ≡ o → screen_or o b m ≡ ok a n → (ok b m ≡ ok a n) × (c a ≡ none)
-      go none q h = (h, let z : b ≡ a = ok-val h in ap c (sym z) ∙ q)
-      go (some k) q h = absurd (bad≢ok h)
+      go : (o : Option (ℕ × ℕ)) → c b ≡ o → screen_or o b m ≡ ok a n → (ok b m ≡ ok a n) × (c a ≡ None)
+      go None q h = (h, let z : b ≡ a = ok-val h in ap c (sym z) ∙ q)
+      go (Some k) q h = absurd (bad≢ok h)
 
   pub screen-tame : (c : A → Option (ℕ × ℕ)) {p : Parser A} → Tame p → Tame (λ s. screen c (p s))
   screen-tame c {p} t = record {
@@ -171,6 +172,6 @@ module _ {A : Type 0} where
 
       near : (b r r' : List ℕ) (a : A) → hd r ≡ hd r' → onward p (b ++ r) ≡ ok a (length b) → onward p (b ++ r') ≡ ok a (length b)
       near [] [] r' a e h = absurd (cut≢ok h)
-      near [] (x ∷ xs) [] a e h = absurd (some-ne-none x e)
+      near [] (x ∷ xs) [] a e h = absurd (none-some x (sym e))
       near [] (x ∷ xs) (y ∷ ys) a e h = t.near [] (x ∷ xs) (y ∷ ys) a e h
       near (x ∷ b) r r' a e h = t.near (x ∷ b) r r' a e h

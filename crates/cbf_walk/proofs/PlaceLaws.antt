@@ -1,7 +1,7 @@
 -- Which numbers a parser refuses with, and that the place lies in its bytes: for each combinator, and for reading.
 -- Assumes nothing.
 use mathlib.Core.Path.{◌≡◌, refl, subst}
-use mathlib.Core.Option.{Option, none, some}
+use Rattle.std.specs.Prelude.{Option, None, Some}
 use mathlib.Core.Bool.{Bool, true, false, cond}
 use mathlib.Core.List.{List, [], ◌∷◌}
 use Prim.Native.Nat.{ℕ, zero, suc, ◌+◌, ◌≤◌}
@@ -35,8 +35,8 @@ module _ (number : ℕ → Type 0) where
 
   -- the same of what a test says
   pub data TestWithin (m : ℕ) : Option (ℕ × ℕ) → Type 0 where
-    passes : TestWithin m none
-    refuses : {k p : ℕ} → number k → p ≤ m → TestWithin m (some (k, p))
+    passes : TestWithin m None
+    refuses : {k p : ℕ} → number k → p ≤ m → TestWithin m (Some (k, p))
 
   -- the same of a file that is read
   abbrev pub ReadingWithin : {A : Type 0} → ℕ → Reading A → Type 0
@@ -116,12 +116,12 @@ module _ {number : ℕ → Type 0} where
   module _ {St Info : Type 0} (ended : ℕ) (step : St → Parser (Option Info × St)) (due : St → Option ℕ) (is_number : number ended)
       (tame : (st : St) → Tame (step st)) (inside : (st : St) → RefusesWithin number (step st)) (m : ℕ) where
     late-within : (off : ℕ) → off ≤ m → (d : Option ℕ) → ReadingWithin number m (late {St = St} {Info = Info} ended off d)
-    late-within off l none = tt
-    late-within off l (some d) = (is_number, omega arith)
+    late-within off l None = tt
+    late-within off l (Some d) = (is_number, omega arith)
 
     broke-within : (off : ℕ) → off ≤ m → (d : Option ℕ) → ReadingWithin number m (broke {St = St} {Info = Info} ended off d)
-    broke-within off l none = (is_number, l)
-    broke-within off l (some d) = (is_number, omega arith)
+    broke-within off l None = (is_number, l)
+    broke-within off l (Some d) = (is_number, omega arith)
 
     cons-within : (it : Item St Info) (r : Reading (Item St Info)) → ReadingWithin number m r → ReadingWithin number m (cons it r)
     cons-within it (refused k p) h = h

@@ -1,7 +1,7 @@
 -- Reading gives items exactly where they are good and put together are the file; and what a loop that reads needs.
 -- Assumes nothing.
 use mathlib.Core.Path.{◌≡◌, refl, sym, ap, ◌∙◌, subst}
-use mathlib.Core.Option.{Option, none, some}
+use Rattle.std.specs.Prelude.{Option, None, Some}
 use mathlib.Core.List.{List, [], ◌∷◌, ◌++◌, append_assoc, append-nil}
 use Prim.Native.Nat.{ℕ, zero, suc, ◌+◌, ◌-◌, ◌≤◌, ◌<◌}
 use native.Mathlib.Nat.{not-suc-le-zero}
@@ -62,9 +62,9 @@ module _ {St Info : Type 0} (ended : ℕ) (step : St → Parser (Option Info × 
 
   at-end : (off : ℕ) (st : St) (d : Option ℕ) → due st ≡ d → (its : List (Item St Info)) → late ended off d ≡ good its → Says st [] its
   unfolding Says flat Good
-  at-end off st none q [] e = (q, refl)
-  at-end off st none q (it ∷ its) e = let z : ◌≡◌ {A = ℕ} 0 1 = cc in absurd (omega arith)
-  at-end off st (some d) q its e = absurd (refused≢good e)
+  at-end off st None q [] e = (q, refl)
+  at-end off st None q (it ∷ its) e = let z : ◌≡◌ {A = ℕ} 0 1 = cc in absurd (omega arith)
+  at-end off st (Some d) q its e = absurd (refused≢good e)
 
   module _ (moves : (st : St) → Moves (step st)) where
     -- with as many steps as bytes, more steps change nothing: the bound is never met
@@ -123,8 +123,8 @@ module _ {St Info : Type 0} (ended : ℕ) (step : St → Parser (Option Info × 
           go cut q ih e = inside (due st) e
             where
               inside : (d : Option ℕ) → broke ended off d ≡ good its → Says st (x ∷ xs) its
-              inside none e = absurd (refused≢good e)
-              inside (some d) e = absurd (refused≢good e)
+              inside None e = absurd (refused≢good e)
+              inside (Some d) e = absurd (refused≢good e)
           go (ok o n) q ih e = stepped st x xs o n q (Read f (off + n) o.1 (drop n (x ∷ xs))) (λ is h. ih (off + n) o.1 (drop n (x ∷ xs)) is h) its e
 
 -- ---- what a loop that reads needs: the whole file s, a place `at` in it, and a bound f that is never met
@@ -196,10 +196,10 @@ module _ {St Info : Type 0} (ended : ℕ) (step : St → Parser (Option Info × 
         )
 
     module _ {st₀ : St} {done : List (Item St Info)} (r : Reached st₀ done at st) where
-      pub reached-end : length s ≤ at → due st ≡ none → read_f ended step due f 0 st₀ s ≡ good done
+      pub reached-end : length s ≤ at → due st ≡ None → read_f ended step due f 0 st₀ s ≡ good done
       reached-end h e = r.so_far ∙ ap (onto done) (from_end h ∙ ap (late ended at) e) ∙ onto-end done
 
-      pub reached-late : length s ≤ at → (d : ℕ) → due st ≡ some d → read_f ended step due f 0 st₀ s ≡ refused ended (at - d)
+      pub reached-late : length s ≤ at → (d : ℕ) → due st ≡ Some d → read_f ended step due f 0 st₀ s ≡ refused ended (at - d)
       reached-late h d e = r.so_far ∙ ap (onto done) (from_end h ∙ ap (late ended at) e) ∙ onto-refused done ended (at - d)
 
       pub reached-bad : at < length s → (k p : ℕ) → step st (drop at s) ≡ bad k p → read_f ended step due f 0 st₀ s ≡ refused k (at + p)
@@ -209,8 +209,8 @@ module _ {St Info : Type 0} (ended : ℕ) (step : St → Parser (Option Info × 
       reached-cut more e = r.so_far ∙ ap (onto done) (from_cut more e) ∙ go (due st)
         where
           go : (d : Option ℕ) → onto done (broke ended at d) ≡ broke ended at d
-          go none = onto-refused done ended at
-          go (some d) = onto-refused done ended (at - d)
+          go None = onto-refused done ended at
+          go (Some d) = onto-refused done ended (at - d)
 
       pub reached-ok : at < length s → (o : Option Info × St) (n : ℕ) → step st (drop at s) ≡ ok o n
           → Reached st₀ (done ++ (item_at s at o n ∷ [])) (at + n) o.1

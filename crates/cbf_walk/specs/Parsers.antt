@@ -1,6 +1,6 @@
 -- Parsers on the bytes from some place on, with relative counts and places, and the combinators that a format is
 -- written in.
-use Rattle.std.proofs.Math.Option.{Option, none, some}
+use Rattle.std.specs.Prelude.{Option, None, Some}
 use Rattle.std.specs.Prelude.{List, [], ◌∷◌, ℕ, ◌+◌, drop}
 
 -- bad k p: refusal k, p bytes on; cut: the bytes end inside; ok a n: a, read from the first n bytes
@@ -14,8 +14,8 @@ Parser A = List ℕ → Res A
 
 -- the first byte, if there is one
 abbrev pub hd : List ℕ → Option ℕ
-hd [] = none
-hd (x ∷ xs) = some x
+hd [] = None
+hd (x ∷ xs) = Some x
 
 module _ {A : Type 0} where
   -- a, from no byte
@@ -36,8 +36,8 @@ module _ {A : Type 0} where
 
   -- what was read is tested: the test gives a refusal and a place in what was taken, or none
   abbrev pub screen_or : Option (ℕ × ℕ) → A → ℕ → Res A
-  screen_or none a n = ok a n
-  screen_or (some k) a n = bad k.0 k.1
+  screen_or None a n = ok a n
+  screen_or (Some k) a n = bad k.0 k.1
 
   abbrev pub screen : (A → Option (ℕ × ℕ)) → Res A → Res A
   screen c (bad k p) = bad k p

@@ -1,7 +1,7 @@
 -- Reading a file step by step, for any step: the items that were read, each with the very bytes that its step took,
 -- or a refusal.
 use Rattle.std.specs.Prelude.{◌≡◌, List, [], ◌∷◌, ◌++◌, ℕ, zero, suc, ◌+◌, ◌-◌, ◌≤◌, length, take, drop}
-use Rattle.std.proofs.Math.Option.{Option, none, some}
+use Rattle.std.specs.Prelude.{Option, None, Some}
 use Rattle.cbf_walk.specs.Parsers.{Res, bad, cut, ok, Parser}
 
 -- what one step took, what it says of a section (if it was one), and the state after it
@@ -30,13 +30,13 @@ flat (it ∷ its) = it.bytes ++ flat its
 module _ {St Info : Type 0} (ended : ℕ) where
   -- the file ends after a step
   abbrev pub late : ℕ → Option ℕ → Reading (Item St Info)
-  late off none = good []
-  late off (some d) = refused ended (off - d)
+  late off None = good []
+  late off (Some d) = refused ended (off - d)
 
   -- the file ends inside a step: refused where that step began, or where what is open began
   abbrev pub broke : ℕ → Option ℕ → Reading (Item St Info)
-  broke off none = refused ended off
-  broke off (some d) = refused ended (off - d)
+  broke off None = refused ended off
+  broke off (Some d) = refused ended (off - d)
 
   -- the step from the place `off`, on the bytes s, gave r: `go` reads on
   abbrev pub turn : ℕ → Option ℕ → List ℕ → Res (Option Info × St) → (ℕ → St → List ℕ → Reading (Item St Info)) → Reading (Item St Info)

@@ -2,20 +2,20 @@
 -- is written or only measured. Assumes nothing.
 use mathlib.Core.Path.{◌≡◌, refl, ap, ◌∙◌, sym}
 use mathlib.Core.Bool.{Bool, true, false}
-use mathlib.Core.List.{List, [], ◌∷◌, ◌++◌}
+use mathlib.Core.List.{List, [], ◌∷◌, ◌++◌, append_assoc}
 use Prim.Native.Nat.{ℕ, suc, ◌+◌, ◌≤◌, ◌<◌}
 use native.Mathlib.Nat.{add-zero, add-suc, suc-add}
 use native.Mathlib.Omega.{arith}
-use lib.ListN.{length, length-append, length-drop, set, take, drop, get_or}
-use lib.Dec.{eqb}
-use borrow.Author.Tests.{eqb-true, eqb-false}
-use lib.Seq.{sets, length-sets, set-set, set_comm, take-suc, take-add, take_all, length-take-le, get_or-drop}
-use lib.Seq.{get_or-set_same, get_or-set_other}
+use lib.ListN.{length, length-append, set}
+use borrow.Rule.Slice.PartMut.{put_mid}
+use Rattle.std.proofs.lemmas.List.{drop-drop}
+use lib.Seq.{sets, sets-eq, length-sets, set-set, set_comm}
 use Rattle.cbf_answers.proofs.Stores.{sets-append}
 
--- stores keep the length, so two lists that stores make equal are as long as each other
-pub puts-length : (new old a b : List ℕ) (at : ℕ) → sets new at a ≡ sets old at b → length new ≡ length old
-puts-length new old a b at e = sym (length-sets new at a) ∙ ap length e ∙ length-sets old at b
+-- a part that is copied over
+pub put-mid : (old s new : List ℕ) (at n : ℕ) → at + length s ≤ length old → n ≡ length s → new ≡ s → put_mid at n old new ≡ sets old at s
+put-mid old s new at n h e q =
+    rw (e, q) (simp (drop-drop, ← append_assoc) (sym (sets-eq s old at h)))
 
 -- the place after one element more
 after_one : (at x : ℕ) (a : List ℕ) → at + length (x ∷ a) ≡ suc at + length a
@@ -35,55 +35,6 @@ last-first old (y ∷ a) at x =
     ap (λ (l : List ℕ). sets l (suc at) a) (set_comm old (at + length (y ∷ a)) at x y (λ e. omega arith))
     ∙ ap (λ (k : ℕ). sets (set (set old at y) k x) (suc at) a) (after_one at y a)
     ∙ last-first (set old at y) a (suc at) x
-
--- a turn of a loop that copies s
-pub sets-take : (old s : List ℕ) (at i : ℕ) → i < length s → set (sets old at (take i s)) (at + i) (get_or s i 0) ≡ sets old at (take (suc i) s)
-sets-take old s at i h =
-    let e : length (take i s) ≡ i = length-take-le i s (omega arith) in
-    ap (λ (k : ℕ). set (sets old at (take i s)) (at + k) (get_or s i 0)) (sym e)
-    ∙ sets-append old at (take i s) (get_or s i 0 ∷ [])
-    ∙ ap (λ (l : List ℕ). sets old at l) (sym (take-suc s i 0 h))
-
--- and of one that copies the part of s from i on
-pub sets-part : (old s : List ℕ) (at i j : ℕ) → i + j < length s → set (sets old at (take j (drop i s))) (at + j)
-    (get_or s (i + j) 0) ≡ sets old at (take (suc j) (drop i s))
-sets-part old s at i j h =
-    ap (λ (x : ℕ). set (sets old at (take j (drop i s))) (at + j) x) (sym (get_or-drop i s j 0)) ∙ sets-take old (drop i s) at j (omega (arith, length-drop i s))
-
--- the first i elements of s are copied to old from at on
-pub record Copied (old : List ℕ) (at : ℕ) (s out : List ℕ) (i : ℕ) : Type 0 where
-  pub within : i ≤ length s
-  pub holds : out ≡ sets old at (take i s)
-
-module _ {old : List ℕ} {at : ℕ} {s out : List ℕ} {i : ℕ} (c : Copied old at s out i) where
-  pub copied-length : length out ≡ length old
-  copied-length = ap length c.holds ∙ length-sets old at (take i s)
-
-  -- and n more
-  pub copied_more : (n : ℕ) {r : ℕ} {new : List ℕ} → i + n ≤ length s → r ≡ i + n → new ≡ sets out (at + i) (take n (drop i s)) → Copied old at s new r
-  copied_more n {r} {new} h p q =
-      let l : i ≡ length (take i s) = sym (length-take-le i s c.within) in
-      record {
-        within = omega arith;
-        holds = q ∙ ap (λ (o : List ℕ). sets o (at + i) (take n (drop i s))) c.holds
-            ∙ ap (λ (k : ℕ). sets (sets old at (take i s)) (at + k) (take n (drop i s))) l
-            ∙ sets-append old at (take i s) (take n (drop i s)) ∙ ap (sets old at) (sym (take-add i n s)) ∙ ap (λ (k : ℕ). sets old at (take k s)) (sym p);
-      }
-
-  -- out and i under other names
-  pub copied-as : {new : List ℕ} {k : ℕ} → new ≡ out → k ≡ i → Copied old at s new k
-  copied-as p q = record { within = omega (arith, c.within); holds = p ∙ c.holds ∙ ap (λ (k : ℕ). sets old at (take k s)) (sym q) }
-
-  pub copied_all : length s ≤ i → out ≡ sets old at s
-  copied_all h = c.holds ∙ ap (sets old at) (take_all i s h)
-
--- a turn of a loop that stores f 0, f 1, .. in h
-pub held_more : (h : List ℕ) (f : ℕ → ℕ) (j : ℕ) → j < length h → ((k : ℕ) → k < j → get_or h k 0 ≡ f k) → (k : ℕ) → k < j + 1 → get_or (set h j (f j)) k 0 ≡ f k
-held_more h f j p e k l = go (eqb k j) refl
-  where
-    go : (b : Bool) → eqb k j ≡ b → get_or (set h j (f j)) k 0 ≡ f k
-    go true q = rw (eqb-true k j q) (get_or-set_same h j (f j) 0 p)
-    go false q = let d = eqb-false k j q in get_or-set_other h j k (f j) 0 d ∙ e k (omega (arith, d))
 
 -- ---- a run over another
 

@@ -8,9 +8,10 @@ pub fn digit_count(n: u64) -> usize
     ensures { (result ≡ length (printed n)) × (result ≤ 20) }
 {
     let mut rest = n;
-    let mut k: usize = 1;
+    let mut k = 1;
+    // divisions are counted, and no index
     while 10 <= rest {
-        rest = rest / 10;
+        rest /= 10;
         k += 1;
     }
     k
@@ -24,11 +25,10 @@ pub fn put_number(out: &mut [u8], at: usize, n: u64) -> usize
 {
     let end = at + digit_count(n);
     let mut rest = n;
-    let mut i = end;
-    while at < i {
-        i -= 1;
-        out[i] = 48 + (rest % 10) as u8;
-        rest = rest / 10;
+    // from the last digit to the first
+    for i in (at..end).rev() {
+        out[i] = b'0' + (rest % 10) as u8;
+        rest /= 10;
     }
     end
 }

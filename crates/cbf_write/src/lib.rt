@@ -3,9 +3,7 @@
 #![tactic(auto)]
 
 mod digits;
-mod large;
 mod put;
 
 pub use digits::{digit_count, put_number};
-pub use large::copy;
-pub use put::{put_short, put_text};
+pub use put::put_text;

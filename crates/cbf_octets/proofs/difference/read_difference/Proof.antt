@@ -75,7 +75,7 @@ returns c =
     let h = room1 c.before.before.before.before.before in
     took-here (one-octet a.octets.now a.i (omega arith)) (tries-first a.octets.now a.i)
     c.if-o.true (omega arith) (omega arith) (omega arith) (omega arith)
-    (c.extended.ensures 1 refl ∙ ap (signed 1) c.wide.ensures.0)
+    (c.extended.ensures 1 refl ∙ ap (signed 1) c.from.ensures)
 
 add-le2 : tie.Need-overflow_add-i
 add-le2 c = omega (arith, room2 c)

@@ -40,7 +40,7 @@ fourth : (c : tie.Else-le4-ne2147483648) → Tries c.args.octets.now c.args.i
 unfolding half
 fourth c = tries-next (number4 c.before) (third c.before.before.before) c.if-le4-ne2147483648.false
 
-returns : tie.Need-returns-then-left-lt1
+returns : tie.Need-returns-then-left-eq0
 returns c = let a = c.args in told-cut (tries-cut (tries-first a.octets.now a.i) (omega arith) (omega arith))
 
 returns-2 : tie.Need-returns-then-octets-i
