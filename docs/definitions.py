@@ -31,7 +31,7 @@ LIBRARY_CRATES = {"std", "core"}
 WORDS = set("→ = : × ⊥ ¬ . _ λ let in record Type Unit tt absurd ( ) { } , ;".split())
 # Fields that are no record's: the parts of a pair, and what is lent as it is, and before and after a call.
 FIELDS, LENT = {"0", "1"}, {"now", "old", "new"}
-MACHINE = set("u8 u16 u32 u64 usize i8 i16 i32 i64 isize bool mut str self".split())
+MACHINE = set("u8 u16 u32 u64 usize i8 i16 i32 i64 isize bool mut str self Option Result".split())
 NUMBER = re.compile(r"0x[0-9a-fA-F]+|[0-9][0-9_]*")
 
 faults = []
@@ -269,11 +269,29 @@ class Source:
         for kind, name in re.findall(r"(?m)^pub (struct|enum|const) (\w+)", self.text):
             self.types[name] = self.body(kind, name)
         self.functions = {name: (bool(exported), at) for name, exported, at in self.find_functions()}
+        self.methods, self.conversions = {}, {}
+        for found in re.finditer(r"(?m)^impl (?:(\w+<\w+>) for )?(\w+) \{", self.text):
+            self.read_impl(found[1], found[2], found.end() - 1)
+
+    def read_impl(self, trait, name, start):
+        """An impl: the public methods of a type, or what its conversions give, with the type that they are of."""
+        end = closing(self.text, start)
+        if not trait:
+            for found in re.finditer(r"(?m)^    pub fn (\w+)", self.text[start:end]):
+                self.functions[f"{name}::{found[1]}"] = False, start + found.end()
+                self.methods.setdefault(name, []).append(f"{name}::{found[1]}")
+            return
+        for found in re.finditer(r"(?m)^    ghost \w+ = (?=\{)", self.text[start:end]):
+            at = start + found.end()
+            for of in type_words(f"{trait} {name}"):
+                self.conversions.setdefault(of, []).append(self.text[at + 1:closing(self.text, at) - 1])
 
     def body(self, kind, name):
         start = re.search(rf"(?m)^pub {kind} {name}\b", self.text).end()
         if kind == "const":
             return kind, self.text[start:self.text.index("=", start)]
+        if self.text[start] == "(":
+            return kind, self.text[start + 1:closing(self.text, start) - 1].replace("pub ", "")
         brace = self.text.index("{", start)
         return kind, self.text[brace:closing(self.text, brace)]
 
@@ -439,6 +457,10 @@ class Follower:
             text = " ".join(re.findall(r"\(([^()]*)\)", text))
         for word in type_words(text):
             self.mention_type(file, word, user)
+        for method in file.methods.get(name, []):
+            self.reach(file, method, user)
+        for given in file.conversions.get(name, []):
+            self.mention(file, free(tokens(given), set()), user)
 
     def mention_type(self, file, word, user):
         if word in MACHINE:
@@ -464,7 +486,7 @@ class Follower:
         for kind, text in clauses:
             if kind == "requires":
                 fault(user, "has a requires")
-            names = set(parameters) | ({"result"} if kind == "ensures" else set())
+            names = set(parameters) | {"self"} | ({"result"} if kind == "ensures" else set())
             words = [without_lent(word, names) for word in tokens(text)]
             self.mention(file, free(words, names), user)
 
