@@ -76,7 +76,8 @@ pub fn base64_letter(b: u8) -> bool
 pub fn after<F: Fn(u8) -> bool>(file: &[u8], from: usize, to: usize, test: F) -> usize
     requires tests { F.IsAlwaysCallable test }
     requires within { (from ≤ to) × (to ≤ length file.now) }
-    ensures { (t : ℕ → Bool) → Gives (F.post test) t → Run t file.now from to result }
+    ensures between { (from ≤ result) × (result ≤ to) }
+    ensures run { (t : ℕ → Bool) → Gives (F.post test) t → Run t file.now from to result }
 {
     for i in from..to {
         if !test(file[i]) {
@@ -121,6 +122,7 @@ fn block<F: Fn(u8) -> bool>(file: &[u8], at: usize, test: &F) -> bool
 pub fn after_blocks<F: Fn(u8) -> bool>(file: &[u8], from: usize, to: usize, test: F) -> usize
     requires tests { F.IsAlwaysCallable test }
     requires within { (from ≤ to) × (to ≤ length file.now) }
+    ensures low { from ≤ result }
     ensures high { result ≤ to }
     ensures passed { (t : ℕ → Bool) → Gives (F.post test) t → Run t file.now from result result }
 {

@@ -12,13 +12,13 @@ after-colon-requires-clause-within c = let h = c.requires.0.inside in (omega ari
 pub after_text-to-requires : goal.after_text-to-requires
 after_text-to-requires c =
     let h = c.requires.0.inside in
-    let name = c.after-colon.ensures no_colon (λ b r l p. search rules) in
+    let name = c.after-colon.ensures.run no_colon (λ b r l p. search rules) in
     (name.high, omega arith)
 
 first-line : (c : After-after_end-next) (h : HeadersHere c.args.file.now c.args.from c.args.empty)
     → Walked h c.after-colon.result c.after_text-to.result c.after_end-next.result
 first-line c h =
-    walk_first h c.requires.1 (c.after-colon.ensures no_colon (λ b r l p. search rules)) c.after_text-to.ensures
+    walk_first h c.requires.1 (c.after-colon.ensures.run no_colon (λ b r l p. search rules)) c.after_text-to.ensures
     c.after_end-next.ensures.0
 
 pub loop-next-init : goal.loop-next-init

@@ -19,4 +19,4 @@ returns c =
     let a = c.args in
     block-named a.file.now a.at a.to (omega arith) (omega arith) a.block (omega arith)
     (sym (c.if-not-is_word_in_any_case.false) ∙ c.is_word_in_any_case.ensures) c.after.result
-    (c.after.ensures not_blank (λ b r h p. search rules))
+    (c.after.ensures.run not_blank (λ b r h p. search rules))
