@@ -94,7 +94,8 @@ fn sum_run(octets: &[u8], i: usize, n: usize) -> u32
 fn pass_run(octets: &[u8], at: State, n: usize, top: u64) -> Option<State>
     requires { Top top × Between top at.biased × (at.next + n ≤ length octets.now) × Plain octets.now at.next n
         × (n % 32 ≡ 0) }
-    ensures { Stepped top octets.now at n result }
+    ensures stepped { Stepped top octets.now at n result }
+    ensures place { IfSome result (λ to. to.next ≡ at.next + n) }
 {
     let mut s = Sums {
         to: at,
@@ -113,7 +114,8 @@ fn pass_run(octets: &[u8], at: State, n: usize, top: u64) -> Option<State>
 fn pass_near(octets: &[u8], at: State, n: usize, top: u64) -> Option<State>
     requires { Top top × Between top at.biased × (at.next + n ≤ length octets.now) × Plain octets.now at.next n
         × (n % 32 ≡ 0) × (3 ≤ at.next) }
-    ensures { IfSome result (λ to. Passed top octets.now at.biased at.next n to.biased to.next) }
+    ensures passed { IfSome result (λ to. Passed top octets.now at.biased at.next n to.biased to.next) }
+    ensures place { IfSome result (λ to. to.next ≡ at.next + n) }
 {
     let mut last = at.biased;
     let mut j: usize = 0;
@@ -136,7 +138,8 @@ fn pass_near(octets: &[u8], at: State, n: usize, top: u64) -> Option<State>
 pub fn pass_plain(octets: &[u8], at: State, n: usize, top: u64) -> Option<State>
     requires { Top top × Between top at.biased × (at.next + n ≤ length octets.now) × Plain octets.now at.next n
         × (n % 32 ≡ 0) × (n ≤ 4096) }
-    ensures { Stepped top octets.now at n result }
+    ensures stepped { Stepped top octets.now at n result }
+    ensures place { IfSome result (λ to. to.next ≡ at.next + n) }
 {
     if far::is_far(at.biased, top, 524288) {
         let total = u64::from(sum_run(octets, at.next, n));

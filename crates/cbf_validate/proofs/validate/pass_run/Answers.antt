@@ -25,8 +25,8 @@ add_block-s-requires c =
       (omega (arith, G.0), omega (arith, G.1)),
     )
 
-pub returns-then-top-s : goal.returns-then-top-s
-returns-then-top-s c =
+pub returns-then-top-s-clause-stepped : goal.returns-then-top-s-clause-stepped
+returns-then-top-s-clause-stepped c =
     let a = c.args in
     let l = c.loop-j in
     let r = c.add_block-s.result in
