@@ -3,13 +3,14 @@
 use Rattle.std.proofs.Common.{◌≡◌, refl, sym, ap, ◌∙◌, Bool, true, false, not, ◌||◌, ◌&&◌, List, [], ◌∷◌, ◌++◌, append_assoc}
 use Rattle.std.proofs.Common.{ℕ, suc, ◌+◌, ◌-◌, ◌<◌, ◌≤◌, arith, tests, eqb, length, get_or, take, drop, None, Some}
 use borrow.Author.Tests.{ne_eqb, eqb-true, le-leb, lt-leb}
-use Rattle.std.proofs.lemmas.List.{take_rest, take_more, take_all, drop_more, drop_all}
+use Rattle.std.proofs.lemmas.List.{take_rest, take_more, take_all, drop_more, drop_all, drop-take, take-take, drop-drop}
+use Rattle.std.proofs.lemmas.List.{length-take, length-drop}
 use Rattle.std.proofs.Math.Bool.{and-false}
 use Rattle.cbf_format.proofs.LineTame.{and-true}
 use Rattle.cbf_format.specs.Text.{blank, digit, lowers, same, skip, add_end, trim_end, trim}
 use Rattle.cbf_format.specs.Values.{digits, decimal, decimal_number}
 use Rattle.cbf_values.specs.Value.{Within, in_text, after_13, in_blanks, joined_from, joined, end_byte}
-use Rattle.cbf_values.specs.Value.{blank_or_end}
+use Rattle.cbf_values.specs.Value.{blank_or_end, PartOf}
 
 -- ---- bytes
 
@@ -295,6 +296,34 @@ trim_over (x ∷ t) p q =
 
 pub trim_nothing : (t : List ℕ) → length t < 1 → trim (joined t) ≡ joined t
 trim_nothing t h = trim_over t (λ l. absurd (omega arith)) (λ l. absurd (omega arith))
+
+-- ---- a part of a text
+
+-- all of it, a part of it, and a part of a part
+pub part_whole : (t : List ℕ) → PartOf t t
+part_whole t = record { at = 0; inside = omega arith; stands = sym (take_all (0 + length t) t (omega arith)) }
+
+pub part_between : (t : List ℕ) (m n : ℕ) → m + n ≤ length t → PartOf t (take n (drop m t))
+part_between t m n h =
+    let l : length (take n (drop m t)) ≡ n = omega (arith, length-take n (drop m t), length-drop m t) in
+    record { at = m; inside = rw l h; stands = rw l (sym (drop-take m n t)) }
+
+pub part_in : {t r s : List ℕ} → PartOf t r → PartOf r s → PartOf t s
+part_in {t} {r} {s} p q =
+    let n : ℕ = q.at + length s in
+    let i = p.inside in
+    let j = q.inside in
+    record {
+      at = p.at + q.at;
+      inside = omega arith;
+      stands =
+          q.stands
+          ∙ ap (λ (l : List ℕ). drop q.at (take n l)) p.stands
+          ∙ ap (drop q.at) (sym (drop-take p.at n (take (p.at + length r) t)))
+          ∙ ap (λ (l : List ℕ). drop q.at (drop p.at l)) (take-take (p.at + n) (p.at + length r) t (omega arith))
+          ∙ drop-drop q.at p.at (take (p.at + n) t)
+          ∙ ap (λ (k : ℕ). drop (p.at + q.at) (take k t)) {x = p.at + n} {y = p.at + q.at + length s} (omega arith);
+    }
 
 -- ---- comparing with a word
 

@@ -1,8 +1,9 @@
 -- The value of a header, as the code walks it. Document 01: "A line starting with a blank continues the value, its
 -- leading blanks read as one space".
-use Rattle.std.specs.Prelude.{◌≡◌, Bool, false, cond, ◌||◌, List, [], ◌∷◌, ℕ, ◌-◌, ◌<◌, eqb, length, get_or}
-use Rattle.std.specs.Prelude.{Option, None, Some}
+use Rattle.std.specs.Prelude.{◌≡◌, Bool, false, cond, ◌||◌, List, [], ◌∷◌, ℕ, ◌+◌, ◌-◌, ◌<◌, ◌≤◌, eqb, length, get_or}
+use Rattle.std.specs.Prelude.{drop, Option, None, Some}
 use Rattle.std.specs.Borrow.{Bor}
+use Rattle.std.proofs.Math.Seq.{slice}
 use Rattle.cbf_format.specs.Text.{blank}
 
 -- in a line's text, after its 13, or in the blanks that a continuation line starts with
@@ -43,3 +44,9 @@ blank_or_end x = end_byte x || blank x
 pub record Trimmed (text : List ℕ) : Type 0 where
   pub front : 0 < length text → blank_or_end (get_or text 0 0) ≡ false
   pub back : 0 < length text → blank_or_end (get_or text (length text - 1) 0) ≡ false
+
+-- a part of a text, as it stands there from a place on
+pub record PartOf (text part : List ℕ) : Type 0 where
+  pub at : ℕ
+  pub inside : at + length part ≤ length text
+  pub stands : part ≡ slice at (at + length part) text

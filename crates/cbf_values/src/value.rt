@@ -1,9 +1,9 @@
 // The value of a header, as it lies in the file. It may run over continuation lines: a line end and the blanks after it
 // are read as one space.
-ghost use Rattle.std.specs.Prelude.{◌≡◌, option_map};
+ghost use Rattle.std.specs.Prelude.{◌≡◌, option_map, IfSome};
 ghost use Rattle.cbf_format.specs.Text.{lowers, same, skip, trim};
 ghost use Rattle.cbf_format.specs.Values.{decimal_number as number_of, between as between_of, unquote};
-ghost use Rattle.cbf_values.specs.Value.{joined, blank_or_end, Stepped, Trimmed};
+ghost use Rattle.cbf_values.specs.Value.{joined, blank_or_end, Stepped, Trimmed, PartOf};
 
 use cbf_lines::text;
 
@@ -42,6 +42,7 @@ fn blank_or_end(b: u8) -> bool
 pub fn trimmed(text: &[u8]) -> &[u8]
     ensures value { joined result.now ≡ trim (joined text.now) }
     ensures ends { Trimmed result.now }
+    ensures part { PartOf text.now result.now }
 {
     let mut rest = text;
     while let [b, more @ ..] = rest
