@@ -10,7 +10,7 @@ use Rattle.cbf_format.proofs.LineTame.{and-true}
 use Rattle.cbf_format.specs.Text.{blank, digit, lowers, same, skip, add_end, trim_end, trim}
 use Rattle.cbf_format.specs.Values.{digits, decimal, decimal_number}
 use Rattle.cbf_values.specs.Value.{Within, in_text, after_13, in_blanks, joined_from, joined, end_byte}
-use Rattle.cbf_values.specs.Value.{blank_or_end, PartOf}
+use Rattle.cbf_values.specs.Value.{blank_or_end, PartOf, RestOf}
 
 -- ---- bytes
 
@@ -324,6 +324,34 @@ part_in {t} {r} {s} p q =
           ∙ drop-drop q.at p.at (take (p.at + n) t)
           ∙ ap (λ (k : ℕ). drop (p.at + q.at) (take k t)) {x = p.at + n} {y = p.at + q.at + length s} (omega arith);
     }
+
+-- the rest of a text: all of it, what is left after n bytes, and the rest of a rest
+pub rest_whole : (t : List ℕ) → RestOf t 0 t
+rest_whole t = record { next = 0; passed = omega arith; inside = omega arith; stands = refl }
+
+pub rest_after : (t : List ℕ) (n : ℕ) → n ≤ length t → RestOf t n (take (length t - n) (drop n t))
+rest_after t n h = record { next = n; passed = omega arith; inside = h; stands = take_rest t n }
+
+pub rest_in : {t r s : List ℕ} {m n : ℕ} (k : ℕ) → k ≤ m + n → RestOf t m r → RestOf r n s → RestOf t k s
+rest_in {t} {r} {s} {m} {n} k h p q =
+    let l : length r ≡ length t - p.next = ap length p.stands ∙ length-drop p.next t in
+    let i = p.inside in
+    let j = q.inside in
+    let a = p.passed in
+    let b = q.passed in
+    record {
+      next = p.next + q.next;
+      passed = omega arith;
+      inside = omega arith;
+      stands = q.stands ∙ ap (drop q.next) p.stands ∙ drop-drop q.next p.next t;
+    }
+
+-- the rest after a line end of two bytes, or of one, and the blanks after it
+pub rest_two : (t r : List ℕ) → 2 ≤ length t → RestOf (take (length t - 2) (drop 2 t)) 0 r → RestOf t 1 r
+rest_two t r h = rest_in 1 (omega arith) (rest_after t 2 h)
+
+pub rest_one : (t r : List ℕ) → 1 ≤ length t → RestOf (take (length t - 1) (drop 1 t)) 0 r → RestOf t 1 r
+rest_one t r h = rest_in 1 (omega arith) (rest_after t 1 h)
 
 -- ---- comparing with a word
 

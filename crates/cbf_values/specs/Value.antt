@@ -50,3 +50,10 @@ pub record PartOf (text part : List ℕ) : Type 0 where
   pub at : ℕ
   pub inside : at + length part ≤ length text
   pub stands : part ≡ slice at (at + length part) text
+
+-- the rest of a text, as it stands there after least bytes or more
+pub record RestOf (text : List ℕ) (least : ℕ) (rest : List ℕ) : Type 0 where
+  pub next : ℕ
+  pub passed : least ≤ next
+  pub inside : next ≤ length text
+  pub stands : rest ≡ drop next text

@@ -3,13 +3,14 @@
 ghost use Rattle.std.specs.Prelude.{◌≡◌, option_map, IfSome};
 ghost use Rattle.cbf_format.specs.Text.{lowers, same, skip, trim};
 ghost use Rattle.cbf_format.specs.Values.{decimal_number as number_of, between as between_of, unquote};
-ghost use Rattle.cbf_values.specs.Value.{joined, blank_or_end, Stepped, Trimmed, PartOf};
+ghost use Rattle.cbf_values.specs.Value.{joined, blank_or_end, Stepped, Trimmed, PartOf, RestOf};
 
 use cbf_lines::text;
 
 // A text without the blanks in front.
 fn after_blanks(mut text: &[u8]) -> &[u8]
-    ensures { result.now ≡ skip text.now }
+    ensures skipped { result.now ≡ skip text.now }
+    ensures rest { RestOf text.now 0 result.now }
 {
     while let [b, rest @ ..] = text
         && text::blank(*b)
@@ -22,7 +23,8 @@ fn after_blanks(mut text: &[u8]) -> &[u8]
 // The first character of a value, and the rest of it.
 #[tactic(auto, using(crate::proofs::ValueLaws::first_laws))]
 fn first(text: &[u8]) -> Option<(u8, &[u8])>
-    ensures { Stepped text.now result }
+    ensures step { Stepped text.now result }
+    ensures rest { IfSome result (λ c. RestOf text.now 1 c.1.now) }
 {
     match text {
         [] => None,
@@ -94,9 +96,10 @@ pub fn number(text: &[u8], least: u64, most: u64) -> Option<u64>
 
 // What stands in a pair of quotes, or all of it where there are none; None where only one quote is there.
 #[tactic(auto, using(crate::proofs::HeaderLaws::quote_laws))]
-pub(crate) fn unquoted(text: &[u8]) -> Option<&[u8]>
+pub fn unquoted(text: &[u8]) -> Option<&[u8]>
     requires { Trimmed text.now }
-    ensures { option_map (λ t. joined t.now) result ≡ unquote (joined text.now) }
+    ensures value { option_map (λ t. joined t.now) result ≡ unquote (joined text.now) }
+    ensures part { IfSome result (λ t. PartOf text.now t.now) }
 {
     match text {
         [b'"', inner @ .., b'"'] => Some(inner),
