@@ -1,5 +1,5 @@
 -- `mel_pack`: an element type that is known is packed as, any other is 14 at 0.
-use Rattle.std.proofs.Common.{sym, ◌∙◌, length}
+use Rattle.std.proofs.Common.{sym, length}
 use Rattle.cbf_pixels.specs.Numbers.{element}
 use Rattle.cbf_capi.proofs.BoundaryLaws.{PackSays, pack-fits, pack-unknown, pack-known}
 use Rattle.cbf_capi.proofs.mel_pack.Goals as goal
@@ -12,7 +12,7 @@ returns-in-Err c =
     record { answer = r.0; output = r.1 }
 
 pub answer_of-requires : goal.answer_of-requires
-answer_of-requires c = rw c.pack.ensures.answer (pack-fits c.in-Ok.kind c.args.pixels.now (length c.args.out.now))
+answer_of-requires c = rw c.pack.ensures.answer (pack-fits _ c.args.pixels.now (length c.args.out.now))
 
 pub returns-in-Ok : goal.returns-in-Ok
 unfolding PackSays

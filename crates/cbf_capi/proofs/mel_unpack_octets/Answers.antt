@@ -7,7 +7,7 @@ use Rattle.cbf_capi.proofs.mel_unpack_octets.Goals as goal
 pub answer_of-requires : goal.answer_of-requires
 answer_of-requires c =
     let a = c.args in
-    rw c.unpack.ensures.answer (unpack-fits c.in-Ok-Ok.by c.in-Ok-Ok.kind a.count a.octets.now (length a.pixels.now))
+    rw c.unpack.ensures.answer (unpack-fits _ _ a.count a.octets.now (length a.pixels.now))
 
 pub returns-in-Err-default : goal.returns-in-Err-default
 unfolding UnpackSays
