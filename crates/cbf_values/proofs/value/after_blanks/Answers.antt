@@ -8,4 +8,5 @@ loop-text-init c = (refl, rest_whole c.args.text.now)
 
 pub loop-text-preserved : goal.loop-text-preserved
 loop-text-preserved c =
-    (grind (arith, common_steps), rest_in 0 (omega arith) c.loop-text.invariant.1 (rest_after c.loop-text.text.now 1 (omega arith)))
+    let text = c.loop-text.text.now in
+    (grind (arith, common_steps), rest_in 0 (omega arith) c.loop-text.invariant.1 (rest_after text 1 (omega arith)))

@@ -9,7 +9,8 @@ loop-rest-init c = (refl, part_whole c.args.text.now)
 pub loop-rest-preserved : goal.loop-rest-preserved
 loop-rest-preserved c =
     let rest = c.loop-rest.rest.now in
-    (grind (arith, common_steps, first_off), part_in c.loop-rest.invariant.1 (part_between rest 1 (length rest - 1) (omega arith)))
+    let part = part_between rest 1 (length rest - 1) (omega arith) in
+    (grind (arith, common_steps, first_off), part_in c.loop-rest.invariant.1 part)
 
 pub loop-rest-2-preserved : goal.loop-rest-2-preserved
 loop-rest-2-preserved c =
