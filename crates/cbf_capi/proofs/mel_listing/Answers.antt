@@ -5,7 +5,9 @@ use Rattle.cbf_capi.proofs.BoundaryLaws.{list-fits}
 use Rattle.cbf_capi.proofs.mel_listing.Goals as goal
 
 pub answer_of-requires : goal.answer_of-requires
-answer_of-requires c = let a = c.args in rw c.list.ensures.answer (list-fits _ a.file.now (length a.out.now) (omega arith))
+answer_of-requires c =
+    let a = c.args in
+    rw c.list.ensures.answer (list-fits _ a.file.now (length a.out.now) (omega arith))
 
 pub returns : goal.returns
 returns c = record { answer = c.answer_of.ensures ∙ ap returned c.list.ensures.answer; output = c.list.ensures.output }

@@ -29,5 +29,6 @@ unfolding SectionSays
 returns-in-Err c =
     let a = c.args in
     let e = c.in-Err.ensures in
-    let r = refused_says _ a.file.now _ (Err c.in-Err.refusal) e.answer e.name c.in-Err.refusal refl c.no_section.ensures in
+    let t = c.in-Err.refusal in
+    let r = refused_says _ a.file.now _ (Err t) e.answer e.name t refl c.no_section.ensures in
     record { answer = r.0; name = r.1.0; inside = r.1.1 }
