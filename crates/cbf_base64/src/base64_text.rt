@@ -19,7 +19,7 @@ use cbf_lines::{closing, line, text};
 // A line of the text: the place after the closing boundary's line; or the symbols so far with the line's, and the
 // place after it.
 #[derive(Clone, Copy)]
-enum Base64Line {
+pub enum Base64Line {
     Closing(usize),
     Text(Groups, usize),
 }

@@ -12,8 +12,9 @@ use crate::turn;
 use crate::turn::Way;
 use cbf_octets::{Last, Part, difference, plain};
 use cbf_pixels::ElementType;
+pub use cbf_sums::State;
 use cbf_sums::far::BIASED_LEAST;
-use cbf_sums::{State, far, near};
+use cbf_sums::{far, near};
 
 fn biased_zero(kind: ElementType) -> u64
     ensures { result ≡ biased_zero kind }
